@@ -1,6 +1,6 @@
 #!/usr/bin/env python3
 """Runs the tests of `crates/thread_tests` many times with random delays. In a scratch copy each
-call of a test's device (`Gate`) first sleeps for up to 0.2 ms, by the clock's last digits, a reader
+call of a test's device (`Barrier`) first sleeps for up to 0.2 ms, by the clock's last digits, a reader
 looks 500 times, and each test's body is run so often. They run with no proof (`rt try --test`).
 Prints what they say, and how long all took; a test that hangs is stopped after an hour. Needs
 Python 3.
@@ -34,7 +34,7 @@ TEST = re.compile(f"({HEAD})(.*?)" + r"(    Ok\(\(\)\)\n\})", re.S)
 
 
 def delayed(text):
-    """The gate, whose calls are delayed."""
+    """The barrier, whose calls are delayed."""
     begin = "    // Holds a write that begins at sector `first`, if it is the one to hold.\n"
     assert text.count(begin) == 1
     text = text.replace(begin, DELAY)
@@ -70,7 +70,7 @@ def main():
         for name in ("crates.txt", "HANDLES"):
             shutil.copy(f"{ROOT}/{name}", f"{folder}/{name}")
         tests = f"{crates}/thread_tests"
-        edit(f"{tests}/src/gate.rt", delayed)
+        edit(f"{tests}/src/barrier.rt", delayed)
         edit(f"{tests}/src/play.rt", hasty)
         for name in ("one", "scenes", "large"):
             edit(f"{tests}/src/{name}.rt", lambda text: looped(text, rounds))

@@ -1,13 +1,15 @@
 #!/usr/bin/env python3
-"""headline: fills the fences of docs/HEADLINE.md, docs/DEFINITIONS.md and docs/THREADS.md with definitions and clauses as they are in the crates.
+"""headline: fills the fences of docs/HEADLINE.md, docs/DEFINITIONS.md and docs/THREADS.md with definitions and clauses as they are in the crates, and the examples
+of doc comments with the tests that they name.
 
   bench/headline.py          writes them
   bench/headline.py --check  says which fences are others
 
 A line `<!-- FILE: NAME NAME .. -->` stands above a fence that holds these definitions of FILE, each with the comment above it, in this order. Of a source file a
 NAME is FUNCTION.CLAUSE: that clause of the function's contract. FUNCTION without a dot names the clause that has no name.
+A line `/// For example (`TEST` of `CRATE`):` stands above a fence that holds the body of this test.
 """
-import os, re, sys
+import glob, os, re, sys
 
 root = os.path.dirname(os.path.dirname(os.path.abspath(__file__)))
 PAGES = ["docs/HEADLINE.md", "docs/DEFINITIONS.md", "docs/THREADS.md"]
@@ -54,14 +56,33 @@ def filled(page):
     return FENCE.sub(fill, text_of(page))
 
 
+def examples():
+    """The source files with an example in a doc comment, each with the text that has the bodies of the tests that the comments name."""
+    head = re.compile(r"^( *)/// For example \(`(\w+)` of `(\w+)`\):\n\1/// ```\n(?:\1///[^\n]*\n)*?\1/// ```\n", re.M)
+
+    def fill(found):
+        margin, name, crate = found.groups()
+        tests = "\n".join(text_of(os.path.relpath(it, root)) for it in sorted(glob.glob(f"{root}/crates/{crate}/src/**/*.rt", recursive=True)))
+        body = re.search(rf"^#\[test\]\nfn {name}\(rt: HostRuntime\) \{{\n(.*?)^\}}$", tests, re.M | re.S)
+        if not body:
+            sys.exit(f"{crate} has no test {name}")
+        lines = [f"{margin}/// {line[4:]}".rstrip() for line in body[1].rstrip("\n").split("\n")]
+        return f"{margin}/// For example (`{name}` of `{crate}`):\n" + "\n".join([f"{margin}/// ```", *lines, f"{margin}/// ```"]) + "\n"
+
+    for path in sorted(glob.glob(f"{root}/crates/*/src/**/*.rt", recursive=True)):
+        page = os.path.relpath(path, root)
+        if "/// For example (`" in text_of(page):
+            yield page, head.sub(fill, text_of(page))
+
+
 def main():
-    off = [page for page in PAGES if os.path.exists(f"{root}/{page}") and filled(page) != text_of(page)]
+    texts = [*((page, filled(page)) for page in PAGES if os.path.exists(f"{root}/{page}")), *examples()]
+    off = [(page, text) for page, text in texts if text != text_of(page)]
     if "--check" in sys.argv[1:]:
-        for page in off:
-            print(f"{page}: a definition is another by now: bench/headline.py writes it")
+        for page, _ in off:
+            print(f"{page}: a definition or an example is another by now: bench/headline.py writes it")
         return 1 if off else 0
-    for page in off:
-        text = filled(page)
+    for page, text in off:
         with open(f"{root}/{page}", "w", encoding="utf-8") as it:
             it.write(text)
     return 0

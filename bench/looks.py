@@ -1,5 +1,5 @@
 #!/usr/bin/env python3
-"""looks: how often a reader looks at the status that the writer posts (`Shared::status`), while four seats write.
+"""looks: how often a reader looks at the status that the writer publishes (`Shared::status`), while four seats write.
 
   bench/looks.py [LOOKS]
 

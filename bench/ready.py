@@ -8,13 +8,14 @@
         Says also where docs/HEADLINE.md isn't what bench/headline.py writes, which places the documents cite that aren't there, which definitions docs/ARCHITECTURE.md
         names that aren't in the file that it names, which tests, transcripts and edits docs/lab/PLANTED.md names that don't exist, which files have no head, which cite what another crate has in proofs/ or specs/inside/, which names a .antt file
         imports and doesn't use (`rt tidy` would drop them), and if release/ is there and isn't of the tree at hand (bench/release.py).
-        Warns of house words in the comments and pages that changed since origin/main (else since the last commit). Warnings leave the exit status.
+        Warns of house words in the comments and pages that changed since origin/main (else since the last commit), and of names that have several meanings
+        (bench/names.py) and had one there. Warnings leave the exit status.
 
 The repository's files stay as they are, but for what --count writes. It needs the kit's `rt` on the PATH.
 """
 import collections, glob, os, re, shutil, subprocess, sys, tempfile
 
-import planted, release
+import names, planted, release
 
 root = os.path.dirname(os.path.dirname(os.path.abspath(__file__)))
 # Words that a reader has to translate: what is meant is a count, `is`, `only`, `if`, `reported`, `after`, `with`, `below`, the result, a prefix, a header.
@@ -178,6 +179,18 @@ def house_words():
             yield f"{file}: house words, more than before: {', '.join(words)}"
 
 
+def names_off():
+    """Names with several meanings that had at most one at the last common commit with origin/main."""
+    base = git("merge-base", "HEAD", "origin/main").strip() or "HEAD"
+    with tempfile.TemporaryDirectory() as room:
+        archive = subprocess.run(["git", "archive", base, "crates"], cwd=root, stdout=subprocess.PIPE, stderr=subprocess.DEVNULL).stdout
+        subprocess.run(["tar", "-x", "-C", room], input=archive)
+        known = {name for name, _ in names.several(room)}
+    for name, found in names.several():
+        if name not in known:
+            yield f"{name} has several meanings: " + ", ".join(file for _, file in found)
+
+
 def headline_off():
     said = subprocess.run([sys.executable, f"{root}/bench/headline.py", "--check"], stdout=subprocess.PIPE, text=True).stdout
     return said.split("\n")[:-1]
@@ -207,7 +220,7 @@ def main():
     for crate, name, _ in kept:
         if not any(planted.slug_of(bug) == name for bug, _, _ in bugs[crate]):
             found.append(f"crates/{crate}/must-fail/{name}.edit: no entry in planted.txt")
-    for warning in house_words():
+    for warning in [*house_words(), *names_off()]:
         print(f"warning: {warning}")
     print("\n".join(found) or "ready")
     return 1 if found else 0

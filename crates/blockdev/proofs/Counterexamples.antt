@@ -6,7 +6,7 @@ use Rattle.std.specs.Prelude.{Result, slice_index_or}
 use Rattle.bio.specs.declared.outcome.DevError.{DevError}
 use Rattle.bio.specs.declared.outcome.DevError.TheVariants.{Io}
 use Rattle.bio.specs.Content.{Content, Patch}
-use Rattle.blockdev.specs.View.{Call, DoesInTurn, IsByteRange, IsLawful, IsRange, Place, View}
+use Rattle.blockdev.specs.View.{Call, DoesInTurn, IsByteRange, IsLawful, IsRange, Origin, View}
 use Rattle.blockdev.specs.Messages.{Unchanged}
 use Rattle.blockdev.specs.Law.{DeviceFrame, HasCause, WriteDone, NoLie, CrashSetKept, FlushDone}
 
@@ -22,11 +22,11 @@ Only content left = (sector : ℕ) → left sector ≡ content sector
 still : View
 still = record {
   size = 1;
-  place = record { origin = 0; disk = 1 };
+  origin = record { sector = 0; disk = 1 };
   content = all 0;
   crash = Only (all 0);
-  moment = 0;
-  since = λ moment. Only (all 0);
+  clock = 0;
+  since = λ reading. Only (all 0);
   faults = 0;
   lies = 0;
   can_lie = false;
@@ -47,9 +47,9 @@ unfolding still
 size goes = let same = goes.size in omega arith
 
 -- another place on the disk beneath it
-place : DeviceFrame one still (record still { place = record { origin = 1; disk = 1 } }) → ⊥
+origin : DeviceFrame one still (record still { origin = record { sector = 1; disk = 1 } }) → ⊥
 unfolding still
-place goes = let same = ap (λ (p : Place). p.origin) goes.place in omega arith
+origin goes = let same = ap (λ (p : Origin). p.sector) goes.origin in omega arith
 
 -- a value that isn't the call's
 content : DeviceFrame one still (record still { content = all 2 }) → ⊥
@@ -70,9 +70,9 @@ crash goes =
     ]
 
 -- a clock that goes back
-moment : DeviceFrame one (record still { moment = 1 }) still → ⊥
+clock : DeviceFrame one (record still { clock = 1 }) still → ⊥
 unfolding still
-moment goes = let h = goes.moment in omega arith
+clock goes = let h = goes.clock in omega arith
 
 -- counts that fall
 faults : DeviceFrame one (record still { faults = 1 }) still → ⊥
@@ -133,12 +133,12 @@ unfolding still
 many lawful = let h = lawful.few_sectors in omega arith
 
 -- since now, another one
-now : IsLawful (record still { since = λ moment left. Unit {0} }) → ⊥
+now : IsLawful (record still { since = λ reading left. Unit {0} }) → ⊥
 unfolding still all Only
 now lawful = let same = one_value 1 0 (lawful.only_now (all 1) tt 0) in omega arith
 
 -- one that leaves an empty sector
-whole : IsLawful (record still { crash = λ left. Unit {0}; since = λ moment left. Unit {0} }) → ⊥
+whole : IsLawful (record still { crash = λ left. Unit {0}; since = λ reading left. Unit {0} }) → ⊥
 unfolding still
 whole lawful =
     let size = lawful.whole 0 (λ sector. []) (omega arith) tt 0 (omega arith) in omega arith

@@ -29,12 +29,12 @@ after_twice patch set mid left first after =
 pub goes_none : (patch : Patch) (v : View) → DeviceFrame patch v v
 goes_none patch v = record {
   size = refl;
-  place = refl;
+  origin = refl;
   content = patched-same patch v.content;
   crash = λ left may. (left, may, patched-same patch left);
-  moment = omega arith;
-  gains = λ moment left h may. inl may;
-  keeps = λ moment left h may. may;
+  clock = omega arith;
+  gains = λ reading left h may. inl may;
+  keeps = λ reading left h may. may;
   faults = omega arith;
   lies = omega arith;
   can_lie = refl;
@@ -47,12 +47,12 @@ pub goes_part : (part whole : Patch) (v w : View) → IsPart part whole → Devi
     → DeviceFrame whole v w
 goes_part part whole v w is goes = record {
   size = goes.size;
-  place = goes.place;
+  origin = goes.origin;
   content = patched-part part whole v.content w.content is goes.content;
   crash = λ left may. wider left (goes.crash left may);
-  moment = goes.moment;
-  gains = λ moment left h may.
-      elim (goes.gains moment left h may) [
+  clock = goes.clock;
+  gains = λ reading left h may.
+      elim (goes.gains reading left h may) [
         | inl before ↦ inl before
         | inr during ↦ inr (wider left during)
       ];
@@ -71,17 +71,17 @@ pub goes_both : (patch : Patch) (u v w : View) → DeviceFrame patch u v → Dev
     → DeviceFrame patch u w
 goes_both patch u v w first second = record {
   size = second.size ∙ first.size;
-  place = second.place ∙ first.place;
+  origin = second.origin ∙ first.origin;
   content = patched_twice patch u.content v.content w.content first.content second.content;
   crash = λ left may. after_twice patch u.crash v.crash left first.crash (second.crash left may);
-  moment = let a = first.moment in let b = second.moment in omega arith;
-  gains = λ moment left h may.
-      elim (second.gains moment left (let a = first.moment in omega arith) may) [
-        | inl before ↦ first.gains moment left h before
+  clock = let a = first.clock in let b = second.clock in omega arith;
+  gains = λ reading left h may.
+      elim (second.gains reading left (let a = first.clock in omega arith) may) [
+        | inl before ↦ first.gains reading left h before
         | inr during ↦ inr (after_twice patch u.crash v.crash left first.crash during)
       ];
-  keeps = λ moment left h may. second.keeps moment left (let a = first.moment in omega arith)
-      (first.keeps moment left h may);
+  keeps = λ reading left h may. second.keeps reading left (let a = first.clock in omega arith)
+      (first.keeps reading left h may);
   faults = let a = first.faults in let b = second.faults in omega arith;
   lies = let a = first.lies in let b = second.lies in omega arith;
   can_lie = second.can_lie ∙ first.can_lie;
@@ -202,7 +202,7 @@ stays_none v = record { crash = λ left may. may }
 pub crash-whole : (v : View) (left : Content) → IsLawful v → v.crash left
     → HasWholeSectors v.size left
 crash-whole v left lawful may =
-    lawful.whole v.moment left (omega arith) (lawful.nested v.moment left (omega arith) may)
+    lawful.whole v.clock left (omega arith) (lawful.nested v.clock left (omega arith) may)
 
 -- The content of a device has whole sectors.
 pub content-whole : (v : View) → IsLawful v → HasWholeSectors v.size v.content
@@ -251,9 +251,9 @@ landed-durable v w first bytes left lands may = λ sector h.
 
 -- If a crash since the start of a call may have left a content, the content is torn.
 pub gained-torn : (v w : View) (patch : Patch) (left : Content) → IsLawful v → DeviceFrame patch v w
-    → w.since v.moment left
+    → w.since v.clock left
     → IsTorn patch v.crash left
-gained-torn v w patch left lawful goes may = elim (goes.gains v.moment left (omega arith) may) [
+gained-torn v w patch left lawful goes may = elim (goes.gains v.clock left (omega arith) may) [
   | inl before ↦ (left, lawful.only_now left before, λ sector. inl refl)
   | inr during ↦ after-torn patch v.crash left during
 ]

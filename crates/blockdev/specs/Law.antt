@@ -25,20 +25,20 @@ IsTorn patch before left = (old : Content) × before old
 pub record DeviceFrame (patch : Patch) (v w : View) : Type 0 where
   -- the device keeps its size and its position on the disk
   pub size : w.size ≡ v.size
-  pub place : w.place ≡ v.place
+  pub origin : w.origin ≡ v.origin
   -- the content is the old one, patched
   pub content : Patched patch v.content w.content
   -- a content that a crash may leave after the call is one that a crash could leave before, patched
   pub crash : (left : Content) → w.crash left → AfterPatch patch v.crash left
   -- the clock doesn't go back
-  pub moment : v.moment ≤ w.moment
+  pub clock : v.clock ≤ w.clock
   -- if a crash since an earlier reading may have left a content, there are two cases. Either a
   -- crash may have left it before the call, or it is one that a crash could leave then, patched.
-  pub gains : (moment : ℕ) (left : Content) → moment ≤ v.moment → w.since moment left →
-      v.since moment left ⊎ AfterPatch patch v.crash left
+  pub gains : (reading : ℕ) (left : Content) → reading ≤ v.clock → w.since reading left →
+      v.since reading left ⊎ AfterPatch patch v.crash left
   -- each content that a crash may have left before the call is still one that a crash may have left
-  pub keeps : (moment : ℕ) (left : Content) → moment ≤ v.moment → v.since moment left
-      → w.since moment left
+  pub keeps : (reading : ℕ) (left : Content) → reading ≤ v.clock → v.since reading left
+      → w.since reading left
   -- the counts don't decrease
   pub faults : v.faults ≤ w.faults
   pub lies : v.lies ≤ w.lies

@@ -17,14 +17,14 @@ message_refusal errors.Memory = refusals.Memory
 -- The view `w` of a device is the earlier view `v`, unchanged.
 pub record Unchanged (v w : View) : Type 0 where
   pub size : w.size ≡ v.size
-  pub place : w.place ≡ v.place
+  pub origin : w.origin ≡ v.origin
   pub content : w.content ≡ v.content
   -- a crash may leave the same contents, now and since any reading of the clock
   pub crash : (left : Content) → v.crash left → w.crash left
   pub crash_before : (left : Content) → w.crash left → v.crash left
-  pub moment : w.moment ≡ v.moment
-  pub since : (moment : ℕ) (left : Content) → v.since moment left → w.since moment left
-  pub since_before : (moment : ℕ) (left : Content) → w.since moment left → v.since moment left
+  pub clock : w.clock ≡ v.clock
+  pub since : (reading : ℕ) (left : Content) → v.since reading left → w.since reading left
+  pub since_before : (reading : ℕ) (left : Content) → w.since reading left → v.since reading left
   pub faults : w.faults ≡ v.faults
   pub lies : w.lies ≡ v.lies
   pub can_lie : w.can_lie ≡ v.can_lie
@@ -33,13 +33,13 @@ pub record Unchanged (v w : View) : Type 0 where
 pub unchanged_none : (v : View) → Unchanged v v
 unchanged_none v = record {
   size = refl;
-  place = refl;
+  origin = refl;
   content = refl;
   crash = λ left may. may;
   crash_before = λ left may. may;
-  moment = refl;
-  since = λ moment left may. may;
-  since_before = λ moment left may. may;
+  clock = refl;
+  since = λ reading left may. may;
+  since_before = λ reading left may. may;
   faults = refl;
   lies = refl;
   can_lie = refl;
@@ -49,14 +49,14 @@ unchanged_none v = record {
 pub unchanged_both : (u v w : View) → Unchanged u v → Unchanged v w → Unchanged u w
 unchanged_both u v w first second = record {
   size = second.size ∙ first.size;
-  place = second.place ∙ first.place;
+  origin = second.origin ∙ first.origin;
   content = second.content ∙ first.content;
   crash = λ left may. second.crash left (first.crash left may);
   crash_before = λ left may. first.crash_before left (second.crash_before left may);
-  moment = second.moment ∙ first.moment;
-  since = λ moment left may. second.since moment left (first.since moment left may);
+  clock = second.clock ∙ first.clock;
+  since = λ reading left may. second.since reading left (first.since reading left may);
   since_before =
-      λ moment left may. first.since_before moment left (second.since_before moment left may);
+      λ reading left may. first.since_before reading left (second.since_before reading left may);
   faults = second.faults ∙ first.faults;
   lies = second.lies ∙ first.lies;
   can_lie = second.can_lie ∙ first.can_lie;

@@ -21,10 +21,10 @@ one_more count = sum_of count 1
 abbrev pub counted : View → ℕ → ℕ → Bool → View
 counted v faults lies drops = record {
   size = v.size;
-  place = v.place;
+  origin = v.origin;
   content = v.content;
   crash = v.crash;
-  moment = v.moment;
+  clock = v.clock;
   since = v.since;
   faults = sum_of v.faults faults;
   lies = sum_of v.lies lies;
@@ -55,10 +55,10 @@ pub goes_counted : (patch : Patch) (v w : View) (faults more_faults lies more_li
 goes_counted patch v w faults more_faults lies more_lies drops later h k stays honest goes =
     record {
       size = goes.size;
-      place = goes.place;
+      origin = goes.origin;
       content = goes.content;
       crash = goes.crash;
-      moment = goes.moment;
+      clock = goes.clock;
       gains = goes.gains;
       keeps = goes.keeps;
       faults = let low = goes.faults in omega arith;

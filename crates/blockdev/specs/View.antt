@@ -9,23 +9,23 @@ use Rattle.bio.specs.declared.outcome.DevError.{DevError}
 
 -- The position of a device on the disk below all layers: its first sector there, and the number of
 -- sectors of that disk.
-pub record Place : Type 0 where
-  pub origin : ℕ
+pub record Origin : Type 0 where
+  pub sector : ℕ
   pub disk : ℕ
 
--- The view of a device in contracts. `moment` is the reading of the device's own clock, which only
+-- The view of a device in contracts. `clock` is the reading of the device's own clock, which only
 -- contracts see.
 pub record View : Type 1 where
   -- its number of sectors
   pub size : ℕ
   -- its position on the disk below all layers
-  pub place : Place
+  pub origin : Origin
   -- the content that a read returns
   pub content : Content
   -- the contents that a crash now may leave
   pub crash : Content → Type 0
   -- the reading of its clock
-  pub moment : ℕ
+  pub clock : ℕ
   -- the contents that a crash may have left since the clock had this reading: between two calls, or
   -- during one
   pub since : ℕ → Content → Type 0
@@ -46,12 +46,12 @@ pub record IsLawful (v : View) : Type 0 where
   -- a crash may leave the content
   pub current : v.crash v.content
   -- if a crash now may leave a content, a crash since any earlier reading may have left it
-  pub nested : (moment : ℕ) (left : Content) → moment ≤ v.moment → v.crash left
-      → v.since moment left
+  pub nested : (reading : ℕ) (left : Content) → reading ≤ v.clock → v.crash left
+      → v.since reading left
   -- if a crash since now may have left a content, a crash now may leave it
-  pub only_now : (left : Content) → v.since v.moment left → v.crash left
+  pub only_now : (left : Content) → v.since v.clock left → v.crash left
   -- each content that a crash may have left has whole sectors
-  pub whole : (moment : ℕ) (left : Content) → moment ≤ v.moment → v.since moment left
+  pub whole : (reading : ℕ) (left : Content) → reading ≤ v.clock → v.since reading left
       → HasWholeSectors v.size left
   pub faults : v.faults < 2 ^ 64
   pub lies : v.lies < 2 ^ 64

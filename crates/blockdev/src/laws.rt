@@ -45,7 +45,7 @@ pub fn calls_tear_their_own_sectors<D: BlockDev>()
 pub fn calls_tear_their_own_sectors_at_any_moment<D: BlockDev>()
     ensures { (before after : D) (patch : Patch) (left : Content) →
         DeviceFrame patch (D.shown before) (D.shown after) →
-        (D.shown after).since (D.shown before).moment left →
+        (D.shown after).since (D.shown before).clock left →
         IsTorn patch (D.shown before).crash left }
 {}
 

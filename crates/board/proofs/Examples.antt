@@ -3,9 +3,9 @@ use Rattle.std.proofs.Common.{◌≡◌, Bool, true, false, true≢false, List, 
 use Rattle.std.proofs.Common.{ap, arith}
 use Rattle.refusals.specs.declared.run_error.End.TheVariants.{Full, Device, Memory}
 use Rattle.bio.specs.declared.outcome.Status.{Status}
-use Rattle.board.specs.Posts.{opening, last_of, IsFit, MayFollow, MayPost, IsRising, Begins}
-use Rattle.board.specs.Posts.{word_of}
-use Rattle.board.specs.PostLaws.{rises_more, opening_rises}
+use Rattle.board.specs.Published.{opening, last_of, IsFit, MayFollow, MayPublish, IsRising, StatusesBegin}
+use Rattle.board.specs.Published.{word_of}
+use Rattle.board.specs.PublishedLaws.{rises_more, opening_rises}
 
 -- the status of a log of one entry, of two, and of two once the log was found full
 abbrev one : Status
@@ -42,15 +42,15 @@ most_fit = record { entries = omega arith; sector = omega arith }
 more_entries : IsFit (record most { entries = 1048577 }) → ⊥
 more_entries fit = let entries = fit.entries in absurd (omega arith)
 
--- what may be posted follows the last status, and not the first alone
-two_posted : MayPost (opening ∷ one ∷ []) two
-two_posted = grind (arith, two_follows)
+-- what may be published follows the last status, and not the first alone
+two_published : MayPublish (opening ∷ one ∷ []) two
+two_published = grind (arith, two_follows)
 
-one_posted : MayPost (opening ∷ two ∷ []) one → ⊥
-one_posted may = one_back may.follows
+one_published : MayPublish (opening ∷ two ∷ []) one → ⊥
+one_published may = one_back may.follows
 
-last_posted : last_of (opening ∷ two ∷ full ∷ []) ≡ full
-last_posted = refl
+last_published : last_of (opening ∷ two ∷ full ∷ []) ≡ full
+last_published = refl
 
 -- statuses of which none goes back
 three_rise : IsRising (opening ∷ one ∷ two ∷ [])
@@ -64,10 +64,10 @@ has_two (status ∷ next ∷ others) = true
 has_two others = false
 
 -- a list begins with its first statuses, and not with another, nor with more than it has
-one_begins : Begins (one ∷ []) (one ∷ two ∷ [])
+one_begins : StatusesBegin (one ∷ []) (one ∷ two ∷ [])
 one_begins = record { rest = two ∷ []; is = refl }
 
-longer_begins : Begins (one ∷ two ∷ []) (one ∷ []) → ⊥
+longer_begins : StatusesBegin (one ∷ two ∷ []) (one ∷ []) → ⊥
 longer_begins begins = true≢false (ap has_two begins.is)
 
 -- a status as a number: 3 entries, 4 sectors, and each end

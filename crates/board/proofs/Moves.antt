@@ -11,12 +11,12 @@ use mathlib.Core.Option.{none, some, some-ne-none, some-injective}
 use Rattle.refusals.specs.declared.run_error.End.{End}
 use Rattle.refusals.specs.declared.run_error.End.TheVariants as ends
 use Rattle.bio.specs.declared.outcome.Status.{Status}
-use Rattle.board.specs.declared.rule.Knows.{Knows}
-use Rattle.board.specs.PostLaws.{begins_itself, begins_longer, begins_none, last_of-push}
-use Rattle.board.specs.PostLaws.{opening_rises, rises_more}
-use Rattle.board.specs.Posts.{Looks, Compares, Fits, IsPosted, writer_of, reader_of, told_by}
-use Rattle.board.specs.Posts.{as_reader, Publishes, Begins, opening, last_of, word_of, IsFit}
-use Rattle.board.specs.Posts.{end_number, MayFollow, IsRising}
+use Rattle.board.specs.declared.rule.BoardPass.{BoardPass}
+use Rattle.board.specs.PublishedLaws.{begins_itself, begins_longer, begins_none, last_of-push}
+use Rattle.board.specs.PublishedLaws.{opening_rises, rises_more}
+use Rattle.board.specs.Published.{ReadsBoard, Compares, FitsBoard, IsPublished, writer_pass, reader_pass, pass_after}
+use Rattle.board.specs.Published.{as_reader, Publishes, StatusesBegin, opening, last_of, word_of, IsFit}
+use Rattle.board.specs.Published.{end_number, MayFollow, IsRising}
 
 pub end_few : (end : Option End) → end_number end ≤ 20
 end_few None = omega arith
@@ -55,7 +55,7 @@ word_once one other fit fits e = grind (arith, end_number, end_few, end_once)
 off : false ≡ true → ⊥
 off e = true≢false (sym e)
 
-pub begins : (word : ℕ) → word ≡ 0 → IsPosted (word ∷ []) (writer_of (opening ∷ []) ∷ [])
+pub begins : (word : ℕ) → word ≡ 0 → IsPublished (word ∷ []) (writer_pass (opening ∷ []) ∷ [])
 begins word is =
     record {
       place = 0;
@@ -65,9 +65,9 @@ begins word is =
       fits = one;
     }
   where
-    one : (by : ℕ) (pass : Knows) → get_elem? (writer_of (opening ∷ []) ∷ []) by ≡ some pass
-        → Fits 0 (opening ∷ []) by pass
-    one zero pass e = subst (Fits 0 (opening ∷ []) 0) (some-injective _ _ e)
+    one : (by : ℕ) (pass : BoardPass) → get_elem? (writer_pass (opening ∷ []) ∷ []) by ≡ some pass
+        → FitsBoard 0 (opening ∷ []) by pass
+    one zero pass e = subst (FitsBoard 0 (opening ∷ []) 0) (some-injective _ _ e)
         (record {
           writes = λ w. (refl, refl);
           seen = begins_itself (opening ∷ []);
@@ -75,48 +75,48 @@ begins word is =
         })
     one (suc by) pass e = absurd (some-ne-none pass (sym e))
 
-fits_set : (place : ℕ) (statuses : List Status) (passes : List Knows) (by : ℕ) (new : Knows)
-    → ((j : ℕ) (pass : Knows) → j ≢ by → get_elem? passes j ≡ some pass
-    → Fits place statuses j pass)
-    → Fits place statuses by new
-    → (j : ℕ) (pass : Knows) → get_elem? (set passes by new) j ≡ some pass
-    → Fits place statuses j pass
+fits_set : (place : ℕ) (statuses : List Status) (passes : List BoardPass) (by : ℕ) (new : BoardPass)
+    → ((j : ℕ) (pass : BoardPass) → j ≢ by → get_elem? passes j ≡ some pass
+    → FitsBoard place statuses j pass)
+    → FitsBoard place statuses by new
+    → (j : ℕ) (pass : BoardPass) → get_elem? (set passes by new) j ≡ some pass
+    → FitsBoard place statuses j pass
 fits_set place statuses passes by new others mine j pass e =
     ⊎_elim
-    (λ (x : (j ≡ by) × (new ≡ pass)). subst (λ (y : ℕ × Knows). Fits place statuses y.0 y.1)
+    (λ (x : (j ≡ by) × (new ≡ pass)). subst (λ (y : ℕ × BoardPass). FitsBoard place statuses y.0 y.1)
     (λ i. (sym x.0 i, x.1 i)) mine)
     (λ (x : (j ≢ by) × (get_elem? passes j ≡ some pass)). others j pass x.0 x.1)
     (at_set passes by j new pass e)
 
-reader_fits : (place : ℕ) (statuses seen : List Status) (by : ℕ) → Begins seen statuses
-    → Fits place statuses by (reader_of seen)
+reader_fits : (place : ℕ) (statuses seen : List Status) (by : ℕ) → StatusesBegin seen statuses
+    → FitsBoard place statuses by (reader_pass seen)
 reader_fits place statuses seen by begins =
     record { writes = λ w. absurd (off w); seen = begins; told = begins_none statuses }
 
-pub publish_keeps : (words : List ℕ) (passes : List Knows) (id : ℕ) (seen : List Status)
+pub publish_keeps : (words : List ℕ) (passes : List BoardPass) (id : ℕ) (seen : List Status)
     (status : Status) → IsFit status → MayFollow (last_of seen) status
-    → IsPosted words passes → get_elem? passes id ≡ some (writer_of seen)
-    → IsPosted (slice_set words 0 (word_of status))
-    (set passes id (writer_of (seen ++ status ∷ [])))
-publish_keeps words passes id seen status fit follows posted there =
-    let mine = (posted.fits id (writer_of seen) there).writes refl in
+    → IsPublished words passes → get_elem? passes id ≡ some (writer_pass seen)
+    → IsPublished (slice_set words 0 (word_of status))
+    (set passes id (writer_pass (seen ++ status ∷ [])))
+publish_keeps words passes id seen status fit follows published there =
+    let mine = (published.fits id (writer_pass seen) there).writes refl in
     let list = seen ++ status ∷ [] in record {
-      place = posted.place;
+      place = published.place;
       statuses = list;
       word =
-          ap (λ (ws : List ℕ). slice_set ws 0 (word_of status)) posted.word
+          ap (λ (ws : List ℕ). slice_set ws 0 (word_of status)) published.word
           ∙ ap (λ (s : Status). word_of s ∷ []) (sym (last_of-push seen status));
-      rising = rises_more seen status (subst IsRising (sym mine.1) posted.rising) fit follows;
-      fits = fits_set posted.place list passes id (writer_of list)
+      rising = rises_more seen status (subst IsRising (sym mine.1) published.rising) fit follows;
+      fits = fits_set published.place list passes id (writer_pass list)
           (λ j pass apart e.
-          let was = posted.fits j pass e in record {
+          let was = published.fits j pass e in record {
             writes = λ w. absurd (apart ((was.writes w).0 ∙ sym mine.0));
             seen =
                 begins_longer pass.seen seen (status ∷ [])
-                (subst (Begins pass.seen) (sym mine.1) was.seen);
+                (subst (StatusesBegin pass.seen) (sym mine.1) was.seen);
             told =
                 begins_longer pass.told seen (status ∷ [])
-                (subst (Begins pass.told) (sym mine.1) was.told);
+                (subst (StatusesBegin pass.told) (sym mine.1) was.told);
           })
           (record {
             writes = λ w. (mine.0, refl);
@@ -129,145 +129,145 @@ publish_keeps words passes id seen status fit follows posted there =
 abbrev writes_word : ℕ → Step (Unit {0})
 writes_word new = record { slots = 0; word = 0; first = new; second = 0; said = none }
 
-pub alone : (me : Me (Unit {0}) Knows) → me.1 ≡ [] → me ≡ (me.0, [])
+pub alone : (me : Me (Unit {0}) BoardPass) → me.1 ≡ [] → me ≡ (me.0, [])
 alone me e = λ k. (me.0, e k)
 
-abbrev Posted : State (Unit {0}) Knows → Type 0
-Posted state = IsPosted state.words state.views
+abbrev Published : State (Unit {0}) BoardPass → Type 0
+Published state = IsPublished state.words state.views
 
-pub publishes : (slots id new : ℕ) (me : Me (Unit {0}) Knows) (seen : List Status) (status : Status)
-    → me ≡ (writer_of seen, []) → new ≡ word_of status → IsFit status
+pub publishes : (slots id new : ℕ) (me : Me (Unit {0}) BoardPass) (seen : List Status) (status : Status)
+    → me ≡ (writer_pass seen, []) → new ≡ word_of status → IsFit status
     → MayFollow (last_of seen) status
-    → Allows Posted slots id me 0 (λ _. new) (λ _. Publishes (writes_word new) me new)
+    → Allows Published slots id me 0 (λ _. new) (λ _. Publishes (writes_word new) me new)
 publishes slots id new me seen status is word fit follows =
-    subst (λ (m : Me (Unit {0}) Knows). Allows Posted slots id m 0 (λ _. new)
+    subst (λ (m : Me (Unit {0}) BoardPass). Allows Published slots id m 0 (λ _. new)
     (λ _. Publishes (writes_word new) m new)) (sym is)
-    (λ s posted sizes there small. (
-      writer_of (seen ++ status ∷ []),
+    (λ s published sizes there small. (
+      writer_pass (seen ++ status ∷ []),
       keeps,
       tt,
-      subst (λ (n : ℕ). IsPosted (slice_set s.words 0 n)
-          (set s.views id (writer_of (seen ++ status ∷ [])))) (sym word)
-          (publish_keeps s.words s.views id seen status fit follows posted there),
-      λ other fits e. ap (λ (x : Status). (writer_of (seen ++ x ∷ []), []))
+      subst (λ (n : ℕ). IsPublished (slice_set s.words 0 n)
+          (set s.views id (writer_pass (seen ++ status ∷ [])))) (sym word)
+          (publish_keeps s.words s.views id seen status fit follows published there),
+      λ other fits e. ap (λ (x : Status). (writer_pass (seen ++ x ∷ []), []))
           (word_once status other fit fits (sym word ∙ e)),
     ))
 
-pub published_is : (before after : Me (Unit {0}) Knows) (new : ℕ) (seen : List Status)
-    (status : Status) → before ≡ (writer_of seen, []) → new ≡ word_of status
+pub published_is : (before after : Me (Unit {0}) BoardPass) (new : ℕ) (seen : List Status)
+    (status : Status) → before ≡ (writer_pass seen, []) → new ≡ word_of status
     → IsFit status → Publishes (writes_word new) before new after
-    → after ≡ (writer_of (seen ++ status ∷ []), [])
+    → after ≡ (writer_pass (seen ++ status ∷ []), [])
 published_is before after new seen status is word fit told =
     told status fit word ∙ ap
-    (λ (m : Me (Unit {0}) Knows). (writer_of (m.0.seen ++ status ∷ []), [])) is
+    (λ (m : Me (Unit {0}) BoardPass). (writer_pass (m.0.seen ++ status ∷ []), [])) is
 
 words_again : (words : List ℕ) (n : ℕ) → words ≡ n ∷ []
     → slice_set words 0 (slice_index words 0) ≡ words
 words_again words n is =
     subst (λ (ws : List ℕ). slice_set ws 0 (slice_index ws 0) ≡ ws) (sym is) refl
 
-look_keeps : (words : List ℕ) (passes : List Knows) (id : ℕ) (seen : List Status)
-    → (posted : IsPosted words passes) → get_elem? passes id ≡ some (reader_of seen)
-    → IsPosted (slice_set words 0 (slice_index words 0)) (set passes id (reader_of posted.statuses))
-look_keeps words passes id seen posted there = record {
-  place = posted.place;
-  statuses = posted.statuses;
-  word = words_again words _ posted.word ∙ posted.word;
-  rising = posted.rising;
+look_keeps : (words : List ℕ) (passes : List BoardPass) (id : ℕ) (seen : List Status)
+    → (published : IsPublished words passes) → get_elem? passes id ≡ some (reader_pass seen)
+    → IsPublished (slice_set words 0 (slice_index words 0)) (set passes id (reader_pass published.statuses))
+look_keeps words passes id seen published there = record {
+  place = published.place;
+  statuses = published.statuses;
+  word = words_again words _ published.word ∙ published.word;
+  rising = published.rising;
   fits =
-      fits_set posted.place posted.statuses passes id (reader_of posted.statuses)
-      (λ j pass apart e. posted.fits j pass e)
-      (reader_fits posted.place posted.statuses posted.statuses id (begins_itself posted.statuses));
+      fits_set published.place published.statuses passes id (reader_pass published.statuses)
+      (λ j pass apart e. published.fits j pass e)
+      (reader_fits published.place published.statuses published.statuses id (begins_itself published.statuses));
 }
 
-pub looks : (slots id : ℕ) (me : Me (Unit {0}) Knows) (seen : List Status)
-    → me ≡ (reader_of seen, [])
-    → Allows Posted slots id me 0 (λ n. n) (Looks (writes_word 0) me)
+pub looks : (slots id : ℕ) (me : Me (Unit {0}) BoardPass) (seen : List Status)
+    → me ≡ (reader_pass seen, [])
+    → Allows Published slots id me 0 (λ n. n) (ReadsBoard (writes_word 0) me)
 looks slots id me seen is =
-    subst (λ (m : Me (Unit {0}) Knows). Allows Posted slots id m 0 (λ n. n)
-    (Looks (writes_word 0) m)) (sym is)
-    (λ s posted sizes there small. (
-      reader_of posted.statuses,
+    subst (λ (m : Me (Unit {0}) BoardPass). Allows Published slots id m 0 (λ n. n)
+    (ReadsBoard (writes_word 0) m)) (sym is)
+    (λ s published sizes there small. (
+      reader_pass published.statuses,
       keeps,
       tt,
-      look_keeps s.words s.views id seen posted there,
+      look_keeps s.words s.views id seen published there,
       (
-        (posted.fits id (reader_of seen) there).seen,
-        posted.rising,
+        (published.fits id (reader_pass seen) there).seen,
+        published.rising,
         refl,
-        ap (λ (ws : List ℕ). slice_index ws 0) posted.word,
+        ap (λ (ws : List ℕ). slice_index ws 0) published.word,
       ),
     ))
 
-compare_keeps : (words : List ℕ) (passes : List Knows) (id : ℕ) (pass : Knows) → pass.writes ≡ true
-    → (posted : IsPosted words passes) → get_elem? passes id ≡ some pass
-    → IsPosted (slice_set words 0 (slice_index words 0)) (set passes id (writer_of pass.seen))
-compare_keeps words passes id pass writing posted there =
-    let mine = posted.fits id pass there in record {
-      place = posted.place;
-      statuses = posted.statuses;
-      word = words_again words _ posted.word ∙ posted.word;
-      rising = posted.rising;
+compare_keeps : (words : List ℕ) (passes : List BoardPass) (id : ℕ) (pass : BoardPass) → pass.writes ≡ true
+    → (published : IsPublished words passes) → get_elem? passes id ≡ some pass
+    → IsPublished (slice_set words 0 (slice_index words 0)) (set passes id (writer_pass pass.seen))
+compare_keeps words passes id pass writing published there =
+    let mine = published.fits id pass there in record {
+      place = published.place;
+      statuses = published.statuses;
+      word = words_again words _ published.word ∙ published.word;
+      rising = published.rising;
       fits =
-          fits_set posted.place posted.statuses passes id (writer_of pass.seen)
-          (λ j other apart e. posted.fits j other e)
+          fits_set published.place published.statuses passes id (writer_pass pass.seen)
+          (λ j other apart e. published.fits j other e)
           (record {
             writes = λ w. mine.writes writing;
             seen = mine.seen;
-            told = begins_none posted.statuses;
+            told = begins_none published.statuses;
           });
     }
 
-pub compares : (slots id : ℕ) (me : Me (Unit {0}) Knows) (pass : Knows) → me ≡ (pass, [])
+pub compares : (slots id : ℕ) (me : Me (Unit {0}) BoardPass) (pass : BoardPass) → me ≡ (pass, [])
     → pass.writes ≡ true
-    → Allows Posted slots id me 0 (λ n. n) (Compares (writes_word 0) me)
+    → Allows Published slots id me 0 (λ n. n) (Compares (writes_word 0) me)
 compares slots id me pass is writing =
-    subst (λ (m : Me (Unit {0}) Knows). Allows Posted slots id m 0 (λ n. n)
+    subst (λ (m : Me (Unit {0}) BoardPass). Allows Published slots id m 0 (λ n. n)
     (Compares (writes_word 0) m)) (sym is)
-    (λ s posted sizes there small.
-    let mine = posted.fits id pass there in (
-      writer_of pass.seen,
+    (λ s published sizes there small.
+    let mine = published.fits id pass there in (
+      writer_pass pass.seen,
       keeps,
       tt,
-      compare_keeps s.words s.views id pass writing posted there,
-      (subst (Begins pass.told) (sym (mine.writes writing).1) mine.told, refl),
+      compare_keeps s.words s.views id pass writing published there,
+      (subst (StatusesBegin pass.told) (sym (mine.writes writing).1) mine.told, refl),
     ))
 
-pub splits : (id : ℕ) (pass : Knows) → Splits Posted id pass pass (as_reader pass)
-splits id pass s posted there = record {
-  place = posted.place;
-  statuses = posted.statuses;
-  word = posted.word;
-  rising = posted.rising;
+pub splits : (id : ℕ) (pass : BoardPass) → Splits Published id pass pass (as_reader pass)
+splits id pass s published there = record {
+  place = published.place;
+  statuses = published.statuses;
+  word = published.word;
+  rising = published.rising;
   fits = λ j other e. ⊎_elim
-      (λ (was : get_elem? (set s.views id pass) j ≡ some other). posted.fits j other
-      (subst (λ (l : List Knows). get_elem? l j ≡ some other)
+      (λ (was : get_elem? (set s.views id pass) j ≡ some other). published.fits j other
+      (subst (λ (l : List BoardPass). get_elem? l j ≡ some other)
       (set_again s.views id pass there) was))
-      (λ (new : as_reader pass ≡ other). subst (Fits posted.place posted.statuses j) new
-      (reader_fits posted.place posted.statuses pass.seen j (posted.fits id pass there).seen))
+      (λ (new : as_reader pass ≡ other). subst (FitsBoard published.place published.statuses j) new
+      (reader_fits published.place published.statuses pass.seen j (published.fits id pass there).seen))
       (at_snoc (set s.views id pass) (as_reader pass) other j e);
 }
 
-pub joins : (id other : ℕ) (pass part : Knows)
-    → Joins Posted id pass other part (told_by pass part) (reader_of [])
-joins id other pass part s posted there apart from =
-    let both = told_by pass part in
+pub joins : (id other : ℕ) (pass part : BoardPass)
+    → Joins Published id pass other part (pass_after pass part) (reader_pass [])
+joins id other pass part s published there apart from =
+    let both = pass_after pass part in
     let theirs : get_elem? s.views other ≡ some part =
     ⊎_elim (λ (t : (other ≡ id) × (both ≡ part)). absurd (apart t.0))
     (λ (t : (other ≢ id) × (get_elem? s.views other ≡ some part)). t.1)
     (at_set s.views id other both part from) in
-    let mine = posted.fits id pass there in record {
-      place = posted.place;
-      statuses = posted.statuses;
-      word = posted.word;
-      rising = posted.rising;
-      fits = fits_set posted.place posted.statuses (set s.views id both) other (reader_of [])
-          (λ j w _ e. fits_set posted.place posted.statuses s.views id both
-          (λ i y _ f. posted.fits i y f)
+    let mine = published.fits id pass there in record {
+      place = published.place;
+      statuses = published.statuses;
+      word = published.word;
+      rising = published.rising;
+      fits = fits_set published.place published.statuses (set s.views id both) other (reader_pass [])
+          (λ j w _ e. fits_set published.place published.statuses s.views id both
+          (λ i y _ f. published.fits i y f)
           (record {
             writes = mine.writes;
             seen = mine.seen;
-            told = (posted.fits other part theirs).seen;
+            told = (published.fits other part theirs).seen;
           }) j w e)
-          (reader_fits posted.place posted.statuses [] other (begins_none posted.statuses));
+          (reader_fits published.place published.statuses [] other (begins_none published.statuses));
     }

@@ -1,3 +1,3 @@
 -- The definitions that the contracts of `board` are written in.
-pub mod Posts
-pub mod PostLaws
+pub mod Published
+pub mod PublishedLaws

@@ -8,33 +8,33 @@ use std::collections::LinkedList;
 // A pass: what the seat of the writer or of a reader knows. `seen` are the statuses that it has
 // seen, `told` those that it has learned from another pass. The writer's pass has seen all. No
 // value of this type is made.
-pub struct Knows {
+pub struct BoardPass {
     pub writes: bool,
     pub seen: LinkedList<Status>,
     pub told: LinkedList<Status>,
 }
 
-// The rule: the word is the number of the last posted status, and each pass has seen a prefix of
-// the posted statuses.
-pub struct Law;
+// The rule: the word is the number of the last published status, and each pass has seen a prefix of
+// the published statuses.
+pub struct BoardLaw;
 
-impl TableRule<(), Knows, ()> for Law {
+impl TableRule<(), BoardPass, ()> for BoardLaw {
     ghost use Rattle.std.specs.Prelude.{[], ◌∷◌};
-    ghost use Rattle.board.specs.Posts.{IsPosted, opening, writer_of};
+    ghost use Rattle.board.specs.Published.{IsPublished, opening, writer_pass};
 
-    ghost holds = { λ _ state. IsPosted state.words state.views };
+    ghost holds = { λ _ state. IsPublished state.words state.views };
 
-    ghost first = { λ _. writer_of (opening ∷ []) };
+    ghost first = { λ _. writer_pass (opening ∷ []) };
 }
 
 // The table of a board: its one word and its passes.
-pub type Post = Table<(), Knows, (), Law, Global>;
+pub type BoardTable = Table<(), BoardPass, (), BoardLaw, Global>;
 
-// The writer posts a status.
+// The writer publishes a status.
 pub struct Publish;
 
-impl Play<(), Knows> for Publish {
-    ghost use Rattle.board.specs.Posts.{Publishes};
+impl Play<(), BoardPass> for Publish {
+    ghost use Rattle.board.specs.Published.{Publishes};
 
     ghost then = { Publishes };
 }
@@ -42,26 +42,26 @@ impl Play<(), Knows> for Publish {
 // A reader looks at the last status.
 pub struct Look;
 
-impl Play<(), Knows> for Look {
-    ghost use Rattle.board.specs.Posts.{Looks};
+impl Play<(), BoardPass> for Look {
+    ghost use Rattle.board.specs.Published.{ReadsBoard};
 
-    ghost then = { Looks };
+    ghost then = { ReadsBoard };
 }
 
-// The writer compares what it has learned with what it posted.
-pub struct Compare;
+// The writer compares what it has learned with what it published.
+pub struct CompareStatuses;
 
-impl Play<(), Knows> for Compare {
-    ghost use Rattle.board.specs.Posts.{Compares};
+impl Play<(), BoardPass> for CompareStatuses {
+    ghost use Rattle.board.specs.Published.{Compares};
 
     ghost then = { Compares };
 }
 
 // A new reader's pass has seen as much as the pass that it is split from.
-pub struct Copied;
+pub struct CopiedPass;
 
-impl Split<Knows> for Copied {
-    ghost use Rattle.board.specs.Posts.{as_reader};
+impl Split<BoardPass> for CopiedPass {
+    ghost use Rattle.board.specs.Published.{as_reader};
 
     ghost left = { λ pass. pass };
 
@@ -69,13 +69,13 @@ impl Split<Knows> for Copied {
 }
 
 // A pass learns what another pass has seen.
-pub struct Told;
+pub struct Learn;
 
-impl Join<Knows> for Told {
+impl Join<BoardPass> for Learn {
     ghost use Rattle.std.specs.Prelude.{[]};
-    ghost use Rattle.board.specs.Posts.{told_by, reader_of};
+    ghost use Rattle.board.specs.Published.{pass_after, reader_pass};
 
-    ghost both = { told_by };
+    ghost both = { pass_after };
 
-    ghost spent = { reader_of [] };
+    ghost spent = { reader_pass [] };
 }

@@ -3,7 +3,7 @@
 ghost use Rattle.std.specs.Prelude.{◌≡◌, ◌≤◌, Option};
 ghost use Rattle.refusals.specs.declared.run_error.End.{End};
 ghost use Rattle.bio.specs.declared.outcome.Status.{Status as Said};
-ghost use Rattle.board.specs.Posts.{IsFit, end_number, word_of as word_said};
+ghost use Rattle.board.specs.Published.{IsFit, end_number, word_of as word_said};
 
 use bio::{End, Status};
 
@@ -12,7 +12,6 @@ const ENTRY: u64 = 67_108_864;
 // The amount by which one sector increases the number.
 const SECTOR: u64 = 32;
 
-/// Returns the number of a status.
 pub fn word_of(status: Status) -> u64
     requires { IsFit status }
     ensures { result ≡ word_said status }

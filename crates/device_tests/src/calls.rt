@@ -2,7 +2,7 @@
 // 4 1|0`. A line has several calls, each a word such as `w31`.
 use bio::{DevError, Ms};
 use blockdev::{BlockDev, Message};
-use fault_layers::Kind;
+use fault_layers::CallKind;
 use refusals::Refusal;
 use sector_disk::SectorDisk;
 use std::alloc::Global;
@@ -16,8 +16,8 @@ const MOST: usize = 8192;
 
 /// A call of a device, with at most 16 sectors. A write fills each of them with `byte`.
 #[derive(Clone, Copy, Debug)]
-pub struct Call {
-    pub kind: Kind,
+pub struct DeviceCall {
+    pub kind: CallKind,
     pub first: u64,
     pub count: u64,
     pub byte: u8,
@@ -27,7 +27,7 @@ pub struct Call {
 /// The time at which a call ended, or its error. A read's bytes are the first of `bytes`; all
 /// others are 255.
 #[derive(Drop)]
-pub struct Answer {
+pub struct CallAnswer {
     pub end: Result<Ms, DevError>,
     pub bytes: [u8; MOST],
 }
@@ -36,10 +36,10 @@ fn read<D: BlockDev + Drop>(
     rt: &impl Abort,
     device: &mut D,
     now: Ms,
-    call: Call,
+    call: DeviceCall,
     bytes: &mut [u8; MOST],
 ) -> Result<Ms, DevError> {
-    let Call { first, count, .. } = call;
+    let DeviceCall { first, count, .. } = call;
     assert!(rt; 0 < count && count <= 16 && first <= 4096 && first + count <= device.sectors());
     device.read(now, first, &mut bytes[..count as usize * 512])
 }
@@ -48,10 +48,10 @@ fn write<D: BlockDev + Drop>(
     rt: &impl Abort,
     device: &mut D,
     now: Ms,
-    call: Call,
+    call: DeviceCall,
     bytes: &[u8; MOST],
 ) -> Result<Ms, DevError> {
-    let Call { first, count, .. } = call;
+    let DeviceCall { first, count, .. } = call;
     assert!(rt; 0 < count && count <= 16 && first <= 4096 && first + count <= device.sectors());
     device.write(now, first, &bytes[..count as usize * 512], call.fua)
 }
@@ -60,27 +60,31 @@ fn discard<D: BlockDev + Drop>(
     rt: &impl Abort,
     device: &mut D,
     now: Ms,
-    call: Call,
+    call: DeviceCall,
 ) -> Result<Ms, DevError> {
-    let Call { first, count, .. } = call;
+    let DeviceCall { first, count, .. } = call;
     assert!(rt; 0 < count && count <= 16 && first <= 4096 && first + count <= device.sectors());
     device.discard(now, first, count)
 }
 
-/// Makes a call, and returns its answer.
-pub fn ask<D: BlockDev + Drop>(rt: &impl Abort, device: &mut D, now: Ms, call: Call) -> Answer {
+pub fn ask<D: BlockDev + Drop>(
+    rt: &impl Abort,
+    device: &mut D,
+    now: Ms,
+    call: DeviceCall,
+) -> CallAnswer {
     let mut bytes = [255; MOST];
     let byte = call.byte;
     let end = match call.kind {
-        Kind::Read => read(rt, device, now, call, &mut bytes),
-        Kind::Write => write(rt, device, now, call, &[byte; MOST]),
-        Kind::Discard => discard(rt, device, now, call),
-        Kind::Flush => device.flush(now),
+        CallKind::Read => read(rt, device, now, call, &mut bytes),
+        CallKind::Write => write(rt, device, now, call, &[byte; MOST]),
+        CallKind::Discard => discard(rt, device, now, call),
+        CallKind::Flush => device.flush(now),
     };
-    Answer { end, bytes }
+    CallAnswer { end, bytes }
 }
 
-impl Answer {
+impl CallAnswer {
     /// Returns the byte that fills the first sector that was read, or 254 if the sector has
     /// different bytes.
     pub fn byte(&self) -> u8 {
@@ -88,10 +92,9 @@ impl Answer {
     }
 }
 
-/// Returns a read of one sector.
-pub fn read_of(sector: u64) -> Call {
-    Call {
-        kind: Kind::Read,
+pub fn read_of(sector: u64) -> DeviceCall {
+    DeviceCall {
+        kind: CallKind::Read,
         first: sector,
         count: 1,
         byte: 0,
@@ -149,15 +152,15 @@ fn numbers_of(text: &str) -> [u64; 3] {
 
 // Returns the call that these words name. `w 5 4 1` fills 4 sectors from sector 5 on with 1, and `F
 // 5 4 1` does so with FUA. `d 5 4` discards these sectors, `f` flushes, and `r 5 4` reads them.
-fn call_of(words: &str) -> Call {
+fn call_of(words: &str) -> DeviceCall {
     let (kind, rest) = words.split_once(' ').unwrap_or((words, ""));
     let [first, count, byte] = numbers_of(rest);
-    Call {
+    DeviceCall {
         kind: match kind {
-            "r" => Kind::Read,
-            "d" => Kind::Discard,
-            "f" => Kind::Flush,
-            _ => Kind::Write,
+            "r" => CallKind::Read,
+            "d" => CallKind::Discard,
+            "f" => CallKind::Flush,
+            _ => CallKind::Write,
         },
         first,
         count,
@@ -181,7 +184,7 @@ fn told<D: BlockDev + Drop>(
     let call = call_of(words);
     let answer = ask(rt, device, now, call);
     let mut told = end_text(rt, alloc, answer.end);
-    if call.kind == Kind::Read && answer.end.is_ok() {
+    if call.kind == CallKind::Read && answer.end.is_ok() {
         for sector in answer.bytes.chunks(512).take(call.count as usize) {
             write!(told, " {}", byte_of(sector)).expect(rt, "memory");
         }
@@ -269,16 +272,16 @@ fn digit(byte: u8) -> u8 {
 // Returns the call that a word names, if it names one. `w31` fills sector 3 with 1, and `F31` does
 // so with FUA. `d32` discards 2 sectors from sector 3 on, and `f` flushes. `r31` reads sector 3,
 // which must be filled with 1. `r3` is a read of sector 3 that fails, as in `r3-`.
-fn call_in(word: &[u8]) -> Option<Call> {
+fn call_in(word: &[u8]) -> Option<DeviceCall> {
     let (kind, first, count, byte) = match word {
-        [b'w' | b'F', first, byte] => (Kind::Write, digit(*first), 1, digit(*byte)),
-        [b'd', first, count] => (Kind::Discard, digit(*first), digit(*count), 0),
-        [b'r', first, byte] => (Kind::Read, digit(*first), 1, digit(*byte)),
-        [b'r', first] => (Kind::Read, digit(*first), 1, 255),
-        [b'f'] => (Kind::Flush, 0, 0, 0),
+        [b'w' | b'F', first, byte] => (CallKind::Write, digit(*first), 1, digit(*byte)),
+        [b'd', first, count] => (CallKind::Discard, digit(*first), digit(*count), 0),
+        [b'r', first, byte] => (CallKind::Read, digit(*first), 1, digit(*byte)),
+        [b'r', first] => (CallKind::Read, digit(*first), 1, 255),
+        [b'f'] => (CallKind::Flush, 0, 0, 0),
         _ => return None,
     };
-    Some(Call {
+    Some(DeviceCall {
         kind,
         first: first as u64,
         count: count as u64,
@@ -307,7 +310,7 @@ pub fn step<D: BlockDev + Drop>(
         let fails = word.ends_with('-');
         let wanted = if fails { Err(DevError::Io) } else { Ok(now) };
         assert!(rt; is_same(rt, &answer.end, &wanted, line));
-        if call.kind == Kind::Read {
+        if call.kind == CallKind::Read {
             assert!(rt; is_same(rt, &answer.byte(), &call.byte, line));
         }
     }

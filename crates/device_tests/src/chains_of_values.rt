@@ -12,7 +12,6 @@ fn number_of(word: Option<&str>) -> u64 {
     word.unwrap_or_default().parse::<u64>().unwrap_or(0)
 }
 
-// Returns whether `chain` is the number of a chain that has values.
 fn is_there(chains: &Chains<u64>, chain: usize) -> bool
     ensures { IsTrue result → 0 < chain × chain < length chains.now.chains }
 {
@@ -118,7 +117,6 @@ fn chains_are_changed(rt: HostRuntime) {
     }
 }
 
-// Returns whether a value is in a chain.
 fn has(chains: &Chains<u64>, chain: usize, value: u64) -> bool
     requires { 0 < chain × chain < length chains.now.chains }
     ensures { result ≡ list_any (λ x. x == value) (chain_in chains.now.chains chain) }

@@ -42,7 +42,6 @@ fn images_are_given_back(rt: HostRuntime) {
     }
 }
 
-// Checks that `bytes` and `into_bytes` return the bytes `wanted`.
 fn check_bytes(rt: &impl Abort, disk: SectorDisk, wanted: &[u8]) {
     assert!(rt; disk.bytes().expect(rt, "memory").as_slice() == wanted);
     assert!(rt; disk.into_bytes().expect(rt, "memory").as_slice() == wanted);
@@ -144,7 +143,6 @@ fn thousands_of_calls_are_kept(rt: HostRuntime) {
     check_round(&rt, &mut disk, 2345);
 }
 
-// The disk has the laws that all devices have.
 #[test]
 fn the_device_laws_hold() {
     blockdev::laws::flushed_writes_outlive_crashes::<SectorDisk>();

@@ -28,11 +28,12 @@ fn talk_over<D: BlockDev + Drop>(rt: &(impl Abort + Print), alloc: Global, lower
     talk(rt, alloc, &mut device, rows);
 }
 
-// Returns a disk of 16 sectors.
 fn disk_of_16(rt: &impl Abort, alloc: Global) -> SectorDisk {
     SectorDisk::new(alloc, 16).expect(rt, "memory")
 }
 
+// Rows `what|answer`. `m` sends a message to a layer. `w` writes sectors with a byte, and `r` reads
+// them, each at the time before it. `#` shows the counts of faults and lies.
 // Writes of four sectors over blocks of two sectors. A bad block fails the first write; the second
 // write removes it from the list.
 const ONCE: &str = "m 1 addbadblock 3 1|ok

@@ -36,7 +36,6 @@ pub(crate) fn disk_of(rt: &impl Abort, alloc: Global, byte: u8) -> SectorDisk {
     disk_with(rt, alloc, 1, 0, byte)
 }
 
-// Returns whether the file `name` has these bytes.
 pub(crate) fn holds<R: std::rt::Files>(
     runtime: &R,
     alloc: Global,
@@ -49,7 +48,6 @@ pub(crate) fn holds<R: std::rt::Files>(
     }
 }
 
-// Returns whether an image has these bytes.
 pub(crate) fn has_bytes(alloc: Global, image: &Image, bytes: &[u8]) -> bool {
     match image.to_vec(alloc) {
         Ok(read) => read.as_slice() == bytes,
@@ -144,7 +142,6 @@ fn link_to<R: std::rt::Files>(runtime: &R, name: &str, link: &str) -> io::Result
     symlink(runtime, name, link)
 }
 
-// Returns the mode of a file.
 fn mode_of<R: std::rt::Files>(runtime: &R, name: &str) -> io::Result<u32> {
     Ok(fs::metadata(runtime, name)?.permissions().mode() % 0o1000)
 }

@@ -14,6 +14,8 @@ mod disk;
 #[cfg(test)]
 mod dust;
 #[cfg(test)]
+mod examples;
+#[cfg(test)]
 mod faults;
 #[cfg(test)]
 mod host;

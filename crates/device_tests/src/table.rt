@@ -1,13 +1,13 @@
 //! Tests of stacks of layers, each made from a table line.
 ghost use Rattle.std.specs.Prelude.{◌≡◌};
 ghost use Rattle.std.specs.List.{AllByRecursion};
-ghost use Rattle.fault_layers.specs.declared.gate.Target.TheVariants.{Linear};
+ghost use Rattle.fault_layers.specs.declared.fault_rule.Target.TheVariants.{Linear};
 ghost use Rattle.layer_table.specs.TableLines.{IsLayerSpec};
 
-use crate::calls::{Call, ask, asked};
+use crate::calls::{DeviceCall, ask, asked};
 use bio::Ms;
 use blockdev::BlockDev;
-use fault_layers::Kind;
+use fault_layers::CallKind;
 use layer_table::{LayerSpec, Stack, Target, parse_line};
 use plain::{LOWER, Plain, UPPER, counts, plain_call};
 use refusals::Refusal;
@@ -94,35 +94,40 @@ fn on_stack<T: Drop, F: FnOnce(&mut Stack) -> T>(
 }
 
 // The calls of a round, in this order.
-const KINDS: [Kind; 7] = [
-    Kind::Read,
-    Kind::Write,
-    Kind::Read,
-    Kind::Discard,
-    Kind::Flush,
-    Kind::Write,
-    Kind::Read,
+const KINDS: [CallKind; 7] = [
+    CallKind::Read,
+    CallKind::Write,
+    CallKind::Read,
+    CallKind::Discard,
+    CallKind::Flush,
+    CallKind::Write,
+    CallKind::Read,
 ];
 
 // Returns a round's call of this kind, of one sector, or of two sectors for a discard.
-fn call_in(round: usize, kind: Kind) -> Call {
+fn call_in(round: usize, kind: CallKind) -> DeviceCall {
     let first = round as u64 % 4;
-    Call {
+    DeviceCall {
         kind,
         first,
-        count: if kind == Kind::Discard { 2 } else { 1 },
+        count: if kind == CallKind::Discard { 2 } else { 1 },
         byte: (round % 200) as u8 + 1,
         fua: first == 1,
     }
 }
 
 // Makes a call. Returns the byte that a read found, 0 for another call, or None if the call failed.
-fn told<D: BlockDev + Drop>(rt: &impl Abort, device: &mut D, now: Ms, call: Call) -> Option<u8> {
+fn told<D: BlockDev + Drop>(
+    rt: &impl Abort,
+    device: &mut D,
+    now: Ms,
+    call: DeviceCall,
+) -> Option<u8> {
     let answer = ask(rt, device, now, call);
     // The call may also end a millisecond later, since one of the layers may delay it.
     match answer.end {
         Ok(end) if end != now && end != now.later_by(Ms::new(1)) => None,
-        Ok(_) if call.kind == Kind::Read => Some(answer.byte()),
+        Ok(_) if call.kind == CallKind::Read => Some(answer.byte()),
         Ok(_) => Some(0),
         Err(_) => None,
     }
@@ -233,7 +238,7 @@ fn under(rt: &impl Abort, alloc: Global, layers: &[LayerSpec]) -> Result<u64, Re
     requires { AllByRecursion IsLayerSpec layers.now }
 {
     let disk = SectorDisk::new(alloc, 16).expect(rt, "memory");
-    sectors_of(Stack::new(disk).under(alloc, layers, Ms::new(0)))
+    sectors_of(Stack::new(disk).layered(alloc, layers, Ms::new(0)))
 }
 
 #[test]

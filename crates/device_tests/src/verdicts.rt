@@ -95,7 +95,6 @@ pub fn image_of(rt: &impl Abort, alloc: Global, sectors: u8, words: &str) -> Vec
     image
 }
 
-// Returns whether all these bytes are zeroes.
 fn has_zeroes(bytes: &[u8]) -> bool {
     bytes.iter().all(|byte| *byte == 0)
 }

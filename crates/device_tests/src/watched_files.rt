@@ -13,7 +13,7 @@ use std::{fs, io};
 
 // The kind of call that a `Watched` runtime fails.
 #[derive(Clone, Copy, PartialEq, Eq)]
-enum Failing {
+enum FailingKind {
     Nothing,
     Write,
     Seek,
@@ -25,7 +25,7 @@ enum Failing {
 // What a `Watched` runtime notes about calls of its files.
 #[derive(Drop)]
 struct Noted {
-    failing: Failing,
+    failing: FailingKind,
     // Whether a file was changed after its last sync.
     is_changed: Cell<bool>,
     // Whether a file was renamed while it was changed and not synced.
@@ -36,7 +36,7 @@ struct Noted {
 }
 
 impl Noted {
-    fn new(failing: Failing) -> Noted {
+    fn new(failing: FailingKind) -> Noted {
         Noted {
             failing,
             is_changed: Cell::new(false),
@@ -47,7 +47,7 @@ impl Noted {
     }
 
     // Fails a call of the kind `failing`.
-    fn passes(&self, call: Failing) -> io::Result<()> {
+    fn passes(&self, call: FailingKind) -> io::Result<()> {
         if self.failing == call {
             return Err(io::Error::from(io::ErrorKind::Other));
         }
@@ -95,7 +95,7 @@ impl<F: Read + Drop> Read for WatchedFile<'_, F> {
 
 impl<F: Write + Drop> Write for WatchedFile<'_, F> {
     fn write(&mut self, buf: &[u8]) -> io::Result<usize> {
-        self.noted.passes(Failing::Write)?;
+        self.noted.passes(FailingKind::Write)?;
         self.noted.is_changed.set(true);
         let written = self.file.write(buf)?;
         self.noted
@@ -111,7 +111,7 @@ impl<F: Write + Drop> Write for WatchedFile<'_, F> {
 
 impl<F: Seek + Drop> Seek for WatchedFile<'_, F> {
     fn seek(&mut self, pos: SeekFrom) -> io::Result<u64> {
-        self.noted.passes(Failing::Seek)?;
+        self.noted.passes(FailingKind::Seek)?;
         self.file.seek(pos)
     }
 }
@@ -122,13 +122,13 @@ impl<F: OpenFile + Drop> OpenFile for WatchedFile<'_, F> {
     }
 
     fn set_len(&self, size: u64) -> io::Result<()> {
-        self.noted.passes(Failing::Length)?;
+        self.noted.passes(FailingKind::Length)?;
         self.noted.is_changed.set(true);
         self.file.set_len(size)
     }
 
     fn sync_all(&self) -> io::Result<()> {
-        self.noted.passes(Failing::Sync)?;
+        self.noted.passes(FailingKind::Sync)?;
         self.noted.is_changed.set(false);
         self.file.sync_all()
     }
@@ -179,7 +179,7 @@ impl<'a, R: std::rt::Files> std::rt::Files for Watched<'a, R> {
     }
 
     fn rename(&self, from: &str, to: &str) -> io::Result<()> {
-        self.noted.passes(Failing::Rename)?;
+        self.noted.passes(FailingKind::Rename)?;
         self.noted
             .renames
             .set(self.noted.renames.get().saturating_add(1));
@@ -241,7 +241,7 @@ fn check_written<R: std::rt::Files + Abort>(
 // zeroes is written.
 #[test]
 fn files_are_synced_before_they_are_renamed(rt: HostRuntime) {
-    let noted = Noted::new(Failing::Nothing);
+    let noted = Noted::new(FailingKind::Nothing);
     assert!(rt; check_written(&rt, rt.alloc(), "dmlw-test-synced", &noted));
     assert!(rt; noted.renames.get() == 1 && !noted.is_early.get() && !noted.is_changed.get());
     assert!(rt; noted.written.get() == 65_536);
@@ -250,11 +250,11 @@ fn files_are_synced_before_they_are_renamed(rt: HostRuntime) {
 #[test]
 fn files_that_fail_leave_the_older_ones(rt: HostRuntime) {
     for failing in [
-        Failing::Write,
-        Failing::Seek,
-        Failing::Length,
-        Failing::Sync,
-        Failing::Rename,
+        FailingKind::Write,
+        FailingKind::Seek,
+        FailingKind::Length,
+        FailingKind::Sync,
+        FailingKind::Rename,
     ] {
         let noted = Noted::new(failing);
         assert!(rt; !check_written(&rt, rt.alloc(), "dmlw-test-failed", &noted));
@@ -266,7 +266,7 @@ fn files_that_fail_leave_the_older_ones(rt: HostRuntime) {
 fn check_failing_pipe<R: std::rt::Files + Abort>(rt: &R, alloc: Global) {
     let name = "dmlw-test-failing-pipe";
     fs::write(rt, name, b"".as_slice()).expect(rt, "a call of the system");
-    let noted = Noted::new(Failing::Write);
+    let noted = Noted::new(FailingKind::Write);
     let watched = Watched {
         runtime: rt,
         noted: &noted,
@@ -284,7 +284,7 @@ fn pipes_that_fail_are_reported(rt: HostRuntime) {
 // Checks that an image is appended to a stream, even if the stream is a regular file.
 fn check_stream<R: std::rt::Files + Abort>(rt: &R, alloc: Global, name: &str) {
     fs::write(rt, STREAM, b"older".as_slice()).expect(rt, "a call of the system");
-    let noted = Noted::new(Failing::Nothing);
+    let noted = Noted::new(FailingKind::Nothing);
     let watched = Watched {
         runtime: rt,
         noted: &noted,
@@ -338,7 +338,7 @@ fn check_pipes<R: std::rt::Files + Abort>(rt: &R, alloc: Global) {
     let (one, other) = ("dmlw-test-one-pipe", "dmlw-test-one-pipe-other-pipe");
     fs::write(rt, one, b"first".as_slice()).expect(rt, "a call of the system");
     fs::write(rt, other, b"second".as_slice()).expect(rt, "a call of the system");
-    let noted = Noted::new(Failing::Nothing);
+    let noted = Noted::new(FailingKind::Nothing);
     let watched = Watched {
         runtime: rt,
         noted: &noted,
@@ -384,7 +384,7 @@ fn check_long_pipes<R: std::rt::Files + Abort>(rt: &R, alloc: Global) {
     fs::write(rt, most, kept).expect(rt, "a call of the system");
     fs::write(rt, long, bytes.as_slice()).expect(rt, "a call of the system");
     fs::write(rt, cut, b"first".as_slice()).expect(rt, "a call of the system");
-    let noted = Noted::new(Failing::Nothing);
+    let noted = Noted::new(FailingKind::Nothing);
     let watched = Watched {
         runtime: rt,
         noted: &noted,

@@ -10,14 +10,14 @@ use Rattle.refusals.specs.Errors.{memory_error}
 use Rattle.dmlw_commands.specs.declared.exit.Exit.{Exit}
 use Rattle.dmlw_commands.specs.declared.exit.Exit.TheVariants.{Done, LoggingEnded, Refused}
 use Rattle.dmlw_commands.specs.declared.exit.Exit.TheVariants.{RuledOut, Usage}
-use Rattle.dmlw_commands.specs.Ends.{Ends, ErrStream, Tells, ReportsLine, err_stream, IsRefusal}
+use Rattle.dmlw_commands.specs.Ends.{EndsAsCommand, ErrStream, ReportsFault, ReportsLine, err_stream, IsRefusal}
 use Rattle.dmlw_commands.specs.Ends.{exit_after, exit_at, exit_by, exit_of, fault_line}
-use Rattle.dmlw_commands.specs.Ends.{reported_line, status_of}
+use Rattle.dmlw_commands.specs.Ends.{reported_line, exit_status_of}
 use Rattle.dmlw_commands.specs.declared.ending.Ended.{Ended}
 use Rattle.dmlw_files.specs.Files.{KeepsFiles}
-use Rattle.dmlw_commands.specs.Makings.{Asks, FailsMaking, Makes, Making, taken, unmade}
+use Rattle.dmlw_commands.specs.Makings.{AsksToWrite, FailsMaking, MakesImage, Making, taken, unmade}
 use Rattle.dmlw_commands.specs.Makings.{unprinted, unwritten}
-use Rattle.dmlw_commands.specs.Seen.{Does, OnlyReads, Printing, Seen}
+use Rattle.dmlw_commands.specs.Seen.{Effect, OnlyReads, Printing, Seen}
 use Rattle.world.specs.declared.reaching.Finding.{Finding}
 use Rattle.world.specs.declared.reaching.Finding.TheVariants as findings
 use Rattle.dmlw_commands.specs.Judgements.{Meaning, exit_answered, finding_meaning, verdict_meaning}
@@ -34,7 +34,7 @@ use Rattle.std.specs.Io.KnownBytes.{Appends}
 use Rattle.dmlw.specs.declared.task.Task.{Task}
 use Rattle.dmlw.specs.declared.task.Task.TheVariants as tasks
 
-at_most : (exit : Exit) → status_of exit ≤ 3
+at_most : (exit : Exit) → exit_status_of exit ≤ 3
 at_most Done = omega arith
 at_most Refused = omega arith
 at_most Usage = omega arith
@@ -51,14 +51,14 @@ ends_keeping old new exit same kept = record {
   unmade = λ ended. inl kept;
 }
 
-abbrev IsLogged : Exit → Type 0
-IsLogged exit = (exit ≡ Done) ⊎ (exit ≡ LoggingEnded)
+abbrev PrintsLogged : Exit → Type 0
+PrintsLogged exit = (exit ≡ Done) ⊎ (exit ≡ LoggingEnded)
 
-not_usage : (exit : Exit) → IsLogged exit → exit ≡ Usage → ⊥
+not_usage : (exit : Exit) → PrintsLogged exit → exit ≡ Usage → ⊥
 not_usage exit (inl is) usage = cc
 not_usage exit (inr is) usage = cc
 
-not_refused : (exit : Exit) → IsLogged exit → IsRefusal exit → ⊥
+not_refused : (exit : Exit) → PrintsLogged exit → IsRefusal exit → ⊥
 not_refused exit (inl is) (inl refused) = cc
 not_refused exit (inl is) (inr (inl refused)) = cc
 not_refused exit (inl is) (inr (inr refused)) = cc
@@ -72,7 +72,7 @@ fault_usage (faults.LoggingEnded end) usage = let no : LoggingEnded ≡ Usage = 
 fault_usage (faults.StoppedAfter applied refusal) usage = let no : Refused ≡ Usage = usage in cc
 
 asked_one : {T : Type 0} (making : Making T) (name : List ℕ) (old new : Seen) (result : T)
-    → Asks making name old new result → AsksForOneWrite old.writes new.writes
+    → AsksToWrite making name old new result → AsksForOneWrite old.writes new.writes
 asked_one making name old new result asks = (name, (asks.image, asks.asked))
 
 failed_once : {T : Type 0} (making : Making T) (read name : List ℕ) (old new : Seen)
@@ -85,37 +85,37 @@ failed_once making read name old new fault (unwritten is result asks) =
     inr (asked_one making name old new result asks)
 
 ends_making : {T : Type 0} (making : (List ℕ → Option (List ℕ)) → Making T) (read name : List ℕ)
-    (exits : Result T RunError → Exit) → ((result : T) → IsLogged (exits (Ok result)))
+    (exits : Result T RunError → Exit) → ((result : T) → PrintsLogged (exits (Ok result)))
     → ((fault : RunError) → exits (Err fault) ≡ exit_of fault)
     → (old new : Seen) (done : Result T RunError) (exit : Exit)
-    → Makes making read name old new done → exit ≡ exits done → EndsCommand old new exit
+    → MakesImage making read name old new done → exit ≡ exits done → EndsCommand old new exit
 ends_making making read name exits logged by_fault old new (Ok result) exit makes is =
     grind (arith, asked_one, at_most, unwritten, not_usage, not_refused, unmade)
 ends_making making read name exits logged by_fault old new (Err fault) exit makes is =
     grind (arith, failed_once, by_fault, at_most, unwritten, fault_usage, unmade)
 
-after_logged : (status : Status) → IsLogged (exit_after (Ok status))
+after_logged : (status : Status) → PrintsLogged (exit_after (Ok status))
 after_logged status = at_end status.end
   where
-    at_end : (end : Option End) → IsLogged (exit_at end)
+    at_end : (end : Option End) → PrintsLogged (exit_at end)
     at_end None = inl refl
     at_end (Some cause) = inr refl
 
 makes_end : {T : Type 0} (making : (List ℕ → Option (List ℕ)) → Making T) (read name : List ℕ)
     (explains : Bool) (old new : Seen) (ended : Ended)
-    → Ends (Makes making read name) exit_by explains old new ended
+    → EndsAsCommand (MakesImage making read name) exit_by explains old new ended
     → EndsCommand old new ended.exit
 makes_end making read name explains old new ended ends = grind (arith, ends_making)
 
 records_end : (making : (List ℕ → Option (List ℕ)) → Making Status) (read name : List ℕ)
     (explains : Bool) (old new : Seen) (ended : Ended)
-    → Ends (Makes making read name) exit_after explains old new ended
+    → EndsAsCommand (MakesImage making read name) exit_after explains old new ended
     → EndsCommand old new ended.exit
 records_end making read name explains old new ended ends = grind (arith, ends_making, after_logged)
 
 reads_end : {T : Type 0} (prints : (List ℕ → Option (List ℕ)) → Printing T)
     (exits : Result T RunError → Exit) (explains : Bool) (old new : Seen) (ended : Ended)
-    → Ends (OnlyReads prints) exits explains old new ended → EndsCommand old new ended.exit
+    → EndsAsCommand (OnlyReads prints) exits explains old new ended → EndsCommand old new ended.exit
 reads_end prints exits explains old new ended ends =
     ends_keeping old new ended.exit ends.did.unwritten ends.did.kept
 
@@ -160,17 +160,17 @@ told_fault t cause ended off tells =
     by_fault (faults.StoppedAfter applied refusal) line = line
 
 -- The exit of a command whose result is Ok.
-abbrev IsAnswered : Exit → Type 0
-IsAnswered exit = IsLogged exit ⊎ (exit ≡ RuledOut)
+abbrev EndsOk : Exit → Type 0
+EndsOk exit = PrintsLogged exit ⊎ (exit ≡ RuledOut)
 
-told_nothing : (exit : Exit) (ended : Ended) (old new : Option (List ℕ)) → IsAnswered exit
+told_nothing : (exit : Exit) (ended : Ended) (old new : Option (List ℕ)) → EndsOk exit
     → new ≡ old → ReportsBy exit ended old new
 told_nothing exit ended old new (inl (inl is)) same = rw is same
 told_nothing exit ended old new (inl (inr is)) same = rw is (inl same)
 told_nothing exit ended old new (inr is) same = rw is same
 
 told : {T : Type 0} (exits : Result T RunError → Exit)
-    → ((result : T) → IsAnswered (exits (Ok result)))
+    → ((result : T) → EndsOk (exits (Ok result)))
     → ((fault : RunError) → exits (Err fault) ≡ exit_of fault) → (t : ErrStream)
     (done : Result T RunError) (ended : Ended) → t.explains ≡ false
     → ReportsLine t (exits done) (reported_line done) ended
@@ -180,14 +180,14 @@ told exits answered by_fault t (Err fault) ended off tells =
     told_fault t fault ended off (rw by_fault at tells)
 
 told_by : {T : Type 0} (t : ErrStream) (done : Result T RunError) (ended : Ended)
-    → t.explains ≡ false → Tells t done ended → ReportsBy ended.exit ended t.before t.after
+    → t.explains ≡ false → ReportsFault t done ended → ReportsBy ended.exit ended t.before t.after
 told_by = told exit_by (λ result. inl (inl refl)) (λ fault. refl)
 
-verdict_answered : (verdict : Verdict) → IsAnswered (verdict_meaning.ends verdict)
+verdict_answered : (verdict : Verdict) → EndsOk (verdict_meaning.ends verdict)
 verdict_answered verdicts.Yes = inl (inl refl)
 verdict_answered (verdicts.No sector by) = inr refl
 
-finding_answered : (finding : Finding) → IsAnswered (finding_meaning.ends finding)
+finding_answered : (finding : Finding) → EndsOk (finding_meaning.ends finding)
 finding_answered (findings.Run run) = inl (inl refl)
 finding_answered (findings.RuledOut sector by) = inr refl
 
@@ -201,22 +201,22 @@ text_tells DisplayVersion t ended ends (done, fault, tells) off = told_by t done
 text_tells _ t ended ends tells off =
     rw ends tt
 
-tells_by : {T : Type 0} (does : Does T) (explains : Bool) (old new : Seen) (ended : Ended)
-    → Ends does exit_by explains old new ended → explains ≡ false
+tells_by : {T : Type 0} (does : Effect T) (explains : Bool) (old new : Seen) (ended : Ended)
+    → EndsAsCommand does exit_by explains old new ended → explains ≡ false
     → ReportsBy ended.exit ended old.err new.err
 tells_by does explains old new ended ends off =
     told_by (err_stream explains old.err new.err) ends.done ended off ends.tells
 
-records_tell : (does : Does Status) (explains : Bool) (old new : Seen) (ended : Ended)
-    → Ends does exit_after explains old new ended → explains ≡ false
+records_tell : (does : Effect Status) (explains : Bool) (old new : Seen) (ended : Ended)
+    → EndsAsCommand does exit_after explains old new ended → explains ≡ false
     → ReportsBy ended.exit ended old.err new.err
 records_tell does explains old new ended ends off =
     told exit_after (λ status. inl (after_logged status)) (λ fault. refl)
     (err_stream explains old.err new.err) ends.done ended off ends.tells
 
 answers_tell : {A : Type 0} (meaning : Meaning A)
-    → ((answer : A) → IsAnswered (meaning.ends answer)) → (does : Does A) (explains : Bool)
-    (old new : Seen) (ended : Ended) → Ends does (exit_answered meaning) explains old new ended
+    → ((answer : A) → EndsOk (meaning.ends answer)) → (does : Effect A) (explains : Bool)
+    (old new : Seen) (ended : Ended) → EndsAsCommand does (exit_answered meaning) explains old new ended
     → explains ≡ false → ReportsBy ended.exit ended old.err new.err
 answers_tell meaning answered does explains old new ended ends off =
     told (exit_answered meaning) answered (λ fault. refl)

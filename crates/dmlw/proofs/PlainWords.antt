@@ -19,7 +19,7 @@ use Rattle.std.proofs.lemmas.Bool.{and_parts}
 use Rattle.std.proofs.lemmas.List.{append_assoc, append-nil, drop_more}
 use Rattle.std.specs.Cmp.Lexicographic.{same_text}
 use Rattle.std.specs.List.{AllByRecursion, list_any}
-use Rattle.dmlw.specs.CommandLine.{Asks, Entered, Enters, IsComplete, IsReadByClap}
+use Rattle.dmlw.specs.CommandLine.{AsksForTask, EnteredCommand, EntersCommand, IsComplete, IsReadByClap}
 use Rattle.dmlw.specs.CommandLine.{command_app, command_words, fault, has_explain, is_explain}
 use Rattle.dmlw.specs.CommandLine.{is_positional, memory, missing, needed, program_app}
 use Rattle.dmlw.specs.CommandLine.{with_arguments}
@@ -33,8 +33,8 @@ use Rattle.dmlw.specs.declared.task.Task.TheVariants as tasks
 pub is_other : (x : ℕ) → not (x == 45) ≡ true → (x == 45) ≡ false
 is_other x plain = grind arith
 
-abbrev pub ArePlain : List Text → Type 0
-ArePlain = AllByRecursion (λ word. is_positional word ≡ true)
+abbrev pub WordsArePlain : List Text → Type 0
+WordsArePlain = AllByRecursion (λ word. is_positional word ≡ true)
 
 -- The walk is before the argument at this place, and no argument waits for a value.
 abbrev pub before_place : Held → ℕ → Walk
@@ -112,7 +112,7 @@ one_step : (rules : List Rule) (h : Held) (place : ℕ) (word : Text) → is_pos
     (place_after (arg_by_index rules place) place)
 one_step rules h place word plain takes = grind (arith, walked_plain, arg_by_index)
 
-walk_plain : (rules : List Rule) (words : List Text) (h : Held) (place : ℕ) → ArePlain words
+walk_plain : (rules : List Rule) (words : List Text) (h : Held) (place : ℕ) → WordsArePlain words
     → have_places rules place words ≡ true
     → fold (walked rules []) (before_place h place) words
     ≡ before_place (held_after rules place words h) (place_behind rules place words)
@@ -125,7 +125,7 @@ walk_plain rules (word ∷ words) h place plain have =
     ∙ walk_plain rules words (held_with rules (arg_by_index rules place) word h)
     (place_after (arg_by_index rules place) place) plain.1 parts.1
 
-fault_plain : (s : Shape) (words : List Text) (h : Held) (place : ℕ) → ArePlain words
+fault_plain : (s : Shape) (words : List Text) (h : Held) (place : ℕ) → WordsArePlain words
     → have_places s.rules place words ≡ true
     → walk_fault s [] (before_place h place) words ≡ places_fault s place words h
 unfolding walk_fault
@@ -150,7 +150,7 @@ last_fault s end =
     (or_else (defaults_fault (settled s.rules end).rows s.rules)
     (check_fault s (finished s.rules end) false))
 
-pub level_plain : (s : Shape) (words : List Text) → ArePlain words
+pub level_plain : (s : Shape) (words : List Text) → WordsArePlain words
     → have_places s.rules 1 words ≡ true
     → level_fault s [] nothing_held words false []
     ≡ or_else (places_fault s 1 words nothing_held)
@@ -161,7 +161,7 @@ level_plain s words plain have =
     ∙ ap (λ (w : Walk). or_else (places_fault s 1 words nothing_held) (last_fault s w.held))
     (walk_plain s.rules words nothing_held 1 plain have)
 
-pub rows_plain : (rules : List Rule) (words : List Text) → ArePlain words
+pub rows_plain : (rules : List Rule) (words : List Text) → WordsArePlain words
     → have_places rules 1 words ≡ true
     → (walk rules [] nothing_held words).held ≡ held_after rules 1 words nothing_held
 rows_plain rules words plain have =
@@ -261,10 +261,10 @@ plain_fault name words =
     or_else (places_fault (level name) 1 words nothing_held)
     (last_fault (level name) (held_after (level name).rules 1 words nothing_held))
 
-pub plain_enters : (name : Name) (program : Text) (words : List Text) → ArePlain words
+pub plain_enters : (name : Name) (program : Text) (words : List Text) → WordsArePlain words
     → have_places (level name).rules 1 words ≡ true
     → plain_fault name words ≡ []
-    → Enters (command_words program name words) (name_text name, plain_rows name words)
+    → EntersCommand (command_words program name words) (name_text name, plain_rows name words)
 plain_enters name program words plain have faultless = record {
   faultless =
       ap (λ (ks : Kinds). fault_at (program_walk (name_text name ∷ words)) ks)
@@ -330,9 +330,9 @@ shown_for_memory : (name : Name) (rows : List Row) (error : Error) → kind_of e
 shown_for_memory names.Record rows error is = is
 shown_for_memory _ rows error is = is
 
-pub read_asks : (words : List Text) (task : Task) (entered : Entered) → IsReadByClap words task
-    → Enters words entered → IsComplete entered
-    → Asks entered task
+pub read_asks : (words : List Text) (task : Task) (entered : EnteredCommand) → IsReadByClap words task
+    → EntersCommand words entered → IsComplete entered
+    → AsksForTask entered task
 read_asks words (tasks.Show error) entered (memory is) enters complete =
     grind (arith, shown_for_memory)
 read_asks words (tasks.Show error) entered (fault among) enters complete =
@@ -342,7 +342,7 @@ read_asks words (tasks.Show error) entered (missing faultless incomplete is) ent
 read_asks words task entered read enters complete =
     rw (← same_some _ _ (sym read.1.1 ∙ enters.enters)) read.1.2
 
-pub asks_for : (name : Name) (rows : List Row) (task : Task) → Asks (name_text name, rows) task
+pub asks_for : (name : Name) (rows : List Row) (task : Task) → AsksForTask (name_text name, rows) task
     → AsksBy name rows task
 asks_for name rows task asks = grind (arith, one_name)
 

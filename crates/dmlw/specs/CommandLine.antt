@@ -79,24 +79,24 @@ pub record IsCommandOf (app : App) (command : Command) : Type 0 where
   pub own : (fields_of command).has_globals ≡ false
 
 -- An entered command: the command's name, and the words after the name, each with its argument.
-abbrev pub Entered : Type 0
-Entered = Text × List Row
+abbrev pub EnteredCommand : Type 0
+EnteredCommand = Text × List Row
 
 -- clap finds no fault in `words`, and `words` enter the command `entered`.
-pub record Enters (words : List Text) (entered : Entered) : Type 0 where
+pub record EntersCommand (words : List Text) (entered : EnteredCommand) : Type 0 where
   pub faultless : fault_of program_app words ≡ []
   pub enters : subcommand_of program_app words ≡ Some entered
 
 -- The command `entered` is one of the program's, and asks for `task`.
-abbrev pub Asks : Entered → Task → Type 0
-Asks entered task = (name : Name) × (entered.0 ≡ name_text name) × AsksBy name entered.1 task
+abbrev pub AsksForTask : EnteredCommand → Task → Type 0
+AsksForTask entered task = (name : Name) × (entered.0 ≡ name_text name) × AsksBy name entered.1 task
 
 -- `found` is an entered command, and this command asks for `task`.
-abbrev pub IsAskedBy : Option Entered → Task → Type 0
-IsAskedBy found task = (entered : Entered) × (found ≡ Some entered) × Asks entered task
+abbrev pub IsAskedBy : Option EnteredCommand → Task → Type 0
+IsAskedBy found task = (entered : EnteredCommand) × (found ≡ Some entered) × AsksForTask entered task
 
 -- The command `entered` is one of the program's, and each of its arguments has a word.
-abbrev pub IsComplete : Entered → Type 0
+abbrev pub IsComplete : EnteredCommand → Type 0
 IsComplete entered = (name : Name) × (entered.0 ≡ name_text name) × HasWords name entered.1
 
 -- clap finds no fault in `words`, and `words` ask for `task`.
@@ -112,7 +112,7 @@ pub data IsUntasked (words : List Text) (kind : ErrorKind) : Type 0 where
   memory : kind ≡ OutOfMemory → IsUntasked words kind
   fault : IsAmong kind (fault_of program_app words) → IsUntasked words kind
   missing : fault_of program_app words ≡ []
-      → ((entered : Entered) → Enters words entered → IsComplete entered → ⊥)
+      → ((entered : EnteredCommand) → EntersCommand words entered → IsComplete entered → ⊥)
       → kind ≡ MissingRequiredArgument → IsUntasked words kind
 
 -- The task of `words` if clap parses them: the task that `words` ask for, or `Show` if they ask for
@@ -130,18 +130,18 @@ IsFormats task = ⊥
 
 -- The first argument says whether `words` are `help formats`. If they are, the task is to print the
 -- formats (`IsFormats`), otherwise what clap parses (`IsReadByClap`).
-abbrev pub IsReadAs : Bool → List Text → Task → Type 0
-IsReadAs true words task = IsFormats task
-IsReadAs false words task = IsReadByClap words task
+abbrev pub ReadsTaskAs : Bool → List Text → Task → Type 0
+ReadsTaskAs true words task = IsFormats task
+ReadsTaskAs false words task = IsReadByClap words task
 
 -- The task of `words`. `help formats` asks for the page of the formats; clap parses all other
 -- words.
-abbrev pub IsRead : List Text → Task → Type 0
-IsRead words task = IsReadAs (is_formats words) words task
+abbrev pub ReadsTask : List Text → Task → Type 0
+ReadsTask words task = ReadsTaskAs (is_formats words) words task
 
 -- What a command line does. Its words without `--explain` are read as `task`, and `task` ends as
 -- `EndsTask` says. It explains itself if `--explain` is among the words.
 pub record DoesWords (words : List (List ℕ)) (old new : Seen) (ended : Ended) : Type 0 where
   pub task : Task
-  pub read : IsRead (without_explain words) task
+  pub read : ReadsTask (without_explain words) task
   pub ends : EndsTask task (has_explain words) old new ended

@@ -12,13 +12,13 @@ use Rattle.replay.specs.declared.replaying.Upto.{Upto}
 use Rattle.dmlw_files.specs.Files.{KeepsFiles}
 use Rattle.dmlw_commands.specs.declared.ending.Ended.{Ended}
 use Rattle.dmlw_commands.specs.declared.exit.Exit.TheVariants.{Usage}
-use Rattle.dmlw_commands.specs.Ends.{Ends, exit_after, exit_by}
+use Rattle.dmlw_commands.specs.Ends.{EndsAsCommand, exit_after, exit_by}
 use Rattle.dmlw_commands.specs.Judgements.{AnswersOf, exit_answered, finding_meaning}
 use Rattle.dmlw_commands.specs.Judgements.{verdict_meaning}
 use Rattle.dmlw_commands.specs.Lists.{ListsImage, ShowsLog, ShowsStatus}
 use Rattle.dmlw_commands.specs.LogCopies.{Copies}
-use Rattle.dmlw_commands.specs.Records.{Records, of_recorder, of_seats}
-use Rattle.dmlw_commands.specs.Replays.{IsNoWhat, IsWhat, Replays}
+use Rattle.dmlw_commands.specs.Records.{RecordsScript, of_recorder, of_seats}
+use Rattle.dmlw_commands.specs.Replays.{IsNoWhat, IsWhat, ReplaysLog}
 use Rattle.dmlw_commands.specs.Seen.{OnlyReads, Seen}
 use Rattle.dmlw.specs.declared.task.BadWord.{BadWord}
 use Rattle.dmlw.specs.declared.task.Task.{Task}
@@ -77,8 +77,8 @@ HasWords name rows =
     AllByRecursion (λ argument. is_some (first_of argument rows) ≡ true) (arguments name)
 
 -- `word` was entered for `argument`.
-abbrev pub IsWord : List Row → Text → Text → Type 0
-IsWord rows argument word = first_of argument rows ≡ Some word
+abbrev pub FitsArgument : List Row → Text → Text → Type 0
+FitsArgument rows argument word = first_of argument rows ≡ Some word
 
 -- `word` is a number, and its value `count` is from 8 to 1,048,576.
 pub record IsSectorCount (word : List ℕ) (count : ℕ) : Type 0 where
@@ -91,32 +91,32 @@ pub record IsSectorCount (word : List ℕ) (count : ℕ) : Type 0 where
 -- were parsed.
 abbrev pub AsksBy : Name → List Row → Task → Type 0
 AsksBy names.Record rows (tasks.Record script log) =
-    IsWord rows (codes "SCRIPT") script.now × IsWord rows (codes "LOG") log.now
+    FitsArgument rows (codes "SCRIPT") script.now × FitsArgument rows (codes "LOG") log.now
 AsksBy names.Run rows (tasks.Run script log) =
-    IsWord rows (codes "SCRIPT") script.now × IsWord rows (codes "LOG") log.now
-AsksBy names.List rows (tasks.List log) = IsWord rows (codes "LOG") log.now
-AsksBy names.Status rows (tasks.Status log) = IsWord rows (codes "LOG") log.now
+    FitsArgument rows (codes "SCRIPT") script.now × FitsArgument rows (codes "LOG") log.now
+AsksBy names.List rows (tasks.List log) = FitsArgument rows (codes "LOG") log.now
+AsksBy names.Status rows (tasks.Status log) = FitsArgument rows (codes "LOG") log.now
 AsksBy names.Replay rows (tasks.Replay files upto) =
-    IsWord rows (codes "LOG") files.log.now × IsWord rows (codes "FIRST") files.first.now
-    × IsWord rows (codes "OUT") files.out.now × (what : Text) × IsWord rows (codes "WHAT") what
+    FitsArgument rows (codes "LOG") files.log.now × FitsArgument rows (codes "FIRST") files.first.now
+    × FitsArgument rows (codes "OUT") files.out.now × (what : Text) × FitsArgument rows (codes "WHAT") what
     × IsWhat what upto
 AsksBy names.Replay rows (tasks.HasBadWord bad_words.What what) =
-    IsWord rows (codes "WHAT") what.now × IsNoWhat what.now
+    FitsArgument rows (codes "WHAT") what.now × IsNoWhat what.now
 AsksBy names.Copy rows (tasks.Copy files sectors) =
-    IsWord rows (codes "LOG") files.log.now × IsWord rows (codes "OUT") files.out.now
-    × (word : Text) × IsWord rows (codes "SECTORS") word × IsSectorCount word sectors
+    FitsArgument rows (codes "LOG") files.log.now × FitsArgument rows (codes "OUT") files.out.now
+    × (word : Text) × FitsArgument rows (codes "SECTORS") word × IsSectorCount word sectors
 AsksBy names.Copy rows (tasks.HasBadWord bad_words.Sectors word) =
-    IsWord rows (codes "SECTORS") word.now × ((sectors : ℕ) → IsSectorCount word.now sectors → ⊥)
+    FitsArgument rows (codes "SECTORS") word.now × ((sectors : ℕ) → IsSectorCount word.now sectors → ⊥)
 AsksBy names.Judge rows (tasks.Judge script moment image) =
-    IsWord rows (codes "SCRIPT") script.now × IsWord rows (codes "IMAGE") image.now
-    × (m : Text) × IsWord rows (codes "M") m × IsNumber m moment
+    FitsArgument rows (codes "SCRIPT") script.now × FitsArgument rows (codes "IMAGE") image.now
+    × (m : Text) × FitsArgument rows (codes "M") m × IsNumber m moment
 AsksBy names.Judge rows (tasks.HasBadWord bad_words.Moment m) =
-    IsWord rows (codes "M") m.now × (is_number m.now ≡ false)
+    FitsArgument rows (codes "M") m.now × (is_number m.now ≡ false)
 AsksBy names.Path rows (tasks.Path script moment image) =
-    IsWord rows (codes "SCRIPT") script.now × IsWord rows (codes "IMAGE") image.now
-    × (m : Text) × IsWord rows (codes "M") m × IsNumber m moment
+    FitsArgument rows (codes "SCRIPT") script.now × FitsArgument rows (codes "IMAGE") image.now
+    × (m : Text) × FitsArgument rows (codes "M") m × IsNumber m moment
 AsksBy names.Path rows (tasks.HasBadWord bad_words.Moment m) =
-    IsWord rows (codes "M") m.now × (is_number m.now ≡ false)
+    FitsArgument rows (codes "M") m.now × (is_number m.now ≡ false)
 AsksBy name rows (tasks.Show error) = kind_of error ≡ OutOfMemory
 AsksBy name rows task = ⊥
 
@@ -125,7 +125,7 @@ AsksBy name rows task = ⊥
 abbrev pub EndsReplayingUpTo : List ℕ → List ℕ → List ℕ → List ℕ → Bool → Seen → Seen → Ended → Type 0
 EndsReplayingUpTo what log first out explains old new ended =
     (upto : Upto) × IsWhat what upto
-    × Ends (Replays log first out upto) exit_by explains old new ended
+    × EndsAsCommand (ReplaysLog log first out upto) exit_by explains old new ended
 
 -- The end of the message about a word with a wrong form: the argument's name, its allowed forms,
 -- and the command that prints help.
@@ -160,23 +160,23 @@ pub record EndsBadWord (flaw : BadWord) (word : List ℕ) (explains : Bool) (old
 -- before and after the task, and the task's end.
 abbrev pub EndsTask : Task → Bool → Seen → Seen → Ended → Type 0
 EndsTask (tasks.Record script log) explains old new ended =
-    Ends (Records of_recorder script.now log.now) exit_after explains old new ended
+    EndsAsCommand (RecordsScript of_recorder script.now log.now) exit_after explains old new ended
 EndsTask (tasks.Run script log) explains old new ended =
-    Ends (Records of_seats script.now log.now) exit_after explains old new ended
+    EndsAsCommand (RecordsScript of_seats script.now log.now) exit_after explains old new ended
 EndsTask (tasks.List log) explains old new ended =
-    Ends (ShowsLog ListsImage log.now) exit_by explains old new ended
+    EndsAsCommand (ShowsLog ListsImage log.now) exit_by explains old new ended
 EndsTask (tasks.Status log) explains old new ended =
-    Ends (ShowsLog ShowsStatus log.now) exit_by explains old new ended
+    EndsAsCommand (ShowsLog ShowsStatus log.now) exit_by explains old new ended
 EndsTask (tasks.Replay files upto) explains old new ended =
-    Ends (Replays files.log.now files.first.now files.out.now upto) exit_by explains old new ended
+    EndsAsCommand (ReplaysLog files.log.now files.first.now files.out.now upto) exit_by explains old new ended
 EndsTask (tasks.Copy files sectors) explains old new ended =
-    Ends (Copies files.log.now files.out.now sectors) exit_by explains old new ended
+    EndsAsCommand (Copies files.log.now files.out.now sectors) exit_by explains old new ended
 EndsTask (tasks.Judge script moment image) explains old new ended =
-    Ends (AnswersOf verdict_meaning script.now moment image.now) (exit_answered verdict_meaning) explains old new ended
+    EndsAsCommand (AnswersOf verdict_meaning script.now moment image.now) (exit_answered verdict_meaning) explains old new ended
 EndsTask (tasks.Path script moment image) explains old new ended =
-    Ends (AnswersOf finding_meaning script.now moment image.now) (exit_answered finding_meaning) explains old new ended
+    EndsAsCommand (AnswersOf finding_meaning script.now moment image.now) (exit_answered finding_meaning) explains old new ended
 EndsTask (tasks.Formats page) explains old new ended =
-    Ends (OnlyReads (λ files. PrintsPage page.now)) exit_by explains old new ended
+    EndsAsCommand (OnlyReads (λ files. PrintsPage page.now)) exit_by explains old new ended
 EndsTask (tasks.Show error) explains old new ended =
     EndsText (kind_of error) explains old new ended
 EndsTask (tasks.HasBadWord flaw word) explains old new ended =

@@ -9,13 +9,13 @@ use Rattle.std.specs.declared.io.ErrorKind.TheVariants.{InvalidData}
 use Rattle.std.specs.Io.KnownBytes.{Appends, Keeps}
 use Rattle.refusals.specs.declared.run_error.RunError.{RunError}
 use Rattle.refusals.specs.Errors.{IsFileError, memory_error}
-use Rattle.dmlw_files.specs.Files.{AsksFor, KeepsFiles, Write}
+use Rattle.dmlw_files.specs.Files.{AddsWrite, KeepsFiles, Write}
 use Rattle.dmlw_commands.specs.declared.ending.Ended.{Ended}
 use Rattle.dmlw_commands.specs.declared.exit.Exit.{Exit}
 use Rattle.dmlw_commands.specs.declared.exit.Exit.TheVariants.{Done, LoggingEnded, Refused}
 use Rattle.dmlw_commands.specs.declared.exit.Exit.TheVariants.{RuledOut, Usage}
-use Rattle.dmlw_commands.specs.Ends.{ErrStream, IsRefusal, Tells, err_stream, exit_of, fault_line}
-use Rattle.dmlw_commands.specs.Ends.{status_of}
+use Rattle.dmlw_commands.specs.Ends.{ErrStream, IsRefusal, ReportsFault, err_stream, exit_of, fault_line}
+use Rattle.dmlw_commands.specs.Ends.{exit_status_of}
 use Rattle.dmlw_commands.specs.Seen.{Printing, Seen}
 
 -- The exit if clap finds no task, given the kind of clap's error. If memory ran out, it is
@@ -37,7 +37,7 @@ is_asked_for _ = false
 -- is claimed.
 abbrev pub ReportsPrinting : ErrStream → Ended → Type 0
 ReportsPrinting t ended =
-    (done : Result (Unit {0}) RunError) × IfErr done IsFileError × Tells t done ended
+    (done : Result (Unit {0}) RunError) × IfErr done IsFileError × ReportsFault t done ended
 
 -- The exit if the words of the command line can't be read: `Usage` if a word isn't UTF-8 text,
 -- otherwise `Refused`.
@@ -47,7 +47,7 @@ unread_exit _ = Refused
 
 -- If the writes are known, `new` are the writes in `old` and one more, of any file.
 abbrev pub AsksForOneWrite : Option (List Write) → Option (List Write) → Type 0
-AsksForOneWrite old new = (name : List ℕ) × AsksFor name old new
+AsksForOneWrite old new = (name : List ℕ) × AddsWrite name old new
 
 -- How every command line ends. The exit status is from 0 to 3. At most one file write was asked
 -- for, and none if the exit is `Usage`.
@@ -55,7 +55,7 @@ AsksForOneWrite old new = (name : List ℕ) × AsksFor name old new
 -- If the exit is a refusal (`IsRefusal`), each file holds what it held. If logging ended, each file
 -- holds what it held, or one write was asked for.
 pub record EndsCommand (old new : Seen) (exit : Exit) : Type 0 where
-  pub known : status_of exit ≤ 3
+  pub known : exit_status_of exit ≤ 3
   pub once : (new.writes ≡ old.writes) ⊎ AsksForOneWrite old.writes new.writes
   pub unwritten : exit ≡ Usage → new.writes ≡ old.writes
   pub kept : IsRefusal exit → KeepsFiles old.files new.files
@@ -66,7 +66,7 @@ pub record EndsCommand (old new : Seen) (exit : Exit) : Type 0 where
 -- line of this fault. For help and the version, see `ReportsPrinting`. For other kinds nothing is
 -- claimed.
 abbrev pub ReportsUntasked : ErrorKind → ErrStream → Ended → Type 0
-ReportsUntasked OutOfMemory t ended = Tells {T = Unit {0}} t (Err memory_error) ended
+ReportsUntasked OutOfMemory t ended = ReportsFault {T = Unit {0}} t (Err memory_error) ended
 ReportsUntasked DisplayHelp t ended = ReportsPrinting t ended
 ReportsUntasked DisplayVersion t ended = ReportsPrinting t ended
 ReportsUntasked _ t ended = Unit {0}
@@ -95,7 +95,7 @@ pub record ReportsPage (page : List ℕ) (old new : Option (List ℕ)) (t : ErrS
     (ended : Ended) : Type 0 where
   pub done : Result (Unit {0}) RunError
   pub printed : PrintsPage page old new done
-  pub tells : Tells t done ended
+  pub tells : ReportsFault t done ended
 
 -- `line` is the line of a fault whose exit is `exit`.
 pub record IsFaultLine (exit : Exit) (line : List ℕ) : Type 0 where

@@ -4,7 +4,7 @@ ghost use Rattle.std.specs.Prelude.{is_some, map, not, true};
 ghost use Rattle.std.specs.List.{filter, list_any};
 ghost use Rattle.clap.specs.Words.{FailsBy, fault_of, found_of, kind_of, rows_of, subcommand_of};
 ghost use Rattle.clap.specs.Words.{subcommand_rows_of};
-ghost use Rattle.dmlw.specs.CommandLine.{Entered, IsAskedBy, IsComplete, IsRead, IsReadByClap};
+ghost use Rattle.dmlw.specs.CommandLine.{EnteredCommand, IsAskedBy, IsComplete, ReadsTask, IsReadByClap};
 ghost use Rattle.dmlw.specs.CommandLine.{has_explain, is_explain, is_formats, program_app};
 ghost use Rattle.dmlw.specs.CommandLine.{without_explain};
 
@@ -20,7 +20,7 @@ use std::convert::AsStr;
 // missing.
 fn task_of<'a>(matches: &ArgMatches<'a>) -> Option<Task<'a>>
     ensures asks { IfSome result (IsAskedBy (subcommand_rows_of matches.now)) }
-    ensures complete { (entered : Entered) → subcommand_rows_of matches.now ≡ Some entered →
+    ensures complete { (entered : EnteredCommand) → subcommand_rows_of matches.now ≡ Some entered →
         IsComplete entered → is_some result ≡ true }
 {
     let (word, found) = entered(matches)?;
@@ -64,7 +64,6 @@ fn missing_word(alloc: Global) -> Result<Error, AllocError>
     program_command(alloc)?.error(ErrorKind::MissingRequiredArgument, "a word is missing")
 }
 
-// Returns whether a word is `--explain`.
 fn is_explain(word: &str) -> bool
     ensures { result ≡ is_explain word.now }
 {
@@ -133,7 +132,7 @@ fn is_formats(words: &[&str]) -> bool
 /// name. `help formats` asks for the page of the formats; `clap` parses all other words. The name
 /// of a file is used as it is, and can't begin with a hyphen.
 pub fn read_words<'a>(alloc: Global, words: &'a [&'a str]) -> Task<'a>
-    ensures { IsRead (map (λ word. word.now) words.entry.now) result }
+    ensures { ReadsTask (map (λ word. word.now) words.entry.now) result }
 {
     if is_formats(words) {
         return Task::Formats(FORMATS);
@@ -143,7 +142,7 @@ pub fn read_words<'a>(alloc: Global, words: &'a [&'a str]) -> Task<'a>
 
 /// Returns the task of a command line that can't be parsed because memory ran out.
 pub fn unread<'a>(error: AllocError) -> Task<'a>
-    ensures { (words : List (List ℕ)) → IsRead words result }
+    ensures { (words : List (List ℕ)) → ReadsTask words result }
 {
     Task::Show(Error::from(error))
 }

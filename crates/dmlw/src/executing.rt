@@ -7,7 +7,7 @@ ghost use Rattle.dmlw.specs.CommandLine.{DoesWords, has_explain};
 ghost use Rattle.dmlw.specs.Commands.{EndsTask, bad_word_text};
 ghost use Rattle.dmlw.specs.Endings.{EndsCommand, EndsUntasked, PrintsPage, ReportsBy, ReportsPage};
 ghost use Rattle.dmlw.specs.Endings.{ReportsUntasked, is_asked_for, unread_exit};
-ghost use Rattle.dmlw_commands.specs.Ends.{err_stream, status_of};
+ghost use Rattle.dmlw_commands.specs.Ends.{err_stream, exit_status_of};
 ghost use Rattle.dmlw_commands.specs.Seen.{seen};
 ghost use Rattle.refusals.specs.Errors.{IsFileError};
 ghost use Rattle.dmlw_commands.specs.declared.exit.Exit.TheVariants.{Usage};
@@ -119,7 +119,7 @@ fn perform<F: Files, O: Write, E: Write, H: Threads + Wait + Sync>(
 /// Writes to `err` why the words of a command line can't be read. Returns the exit status: 2 if a
 /// word isn't UTF-8 text, otherwise 1.
 pub fn refuse<E: Write>(alloc: Global, error: io::Error, err: &mut E) -> u8
-    ensures { result ≡ status_of (unread_exit (error_kind error)) }
+    ensures { result ≡ exit_status_of (unread_exit (error_kind error)) }
 {
     let exit = match error.kind() {
         io::ErrorKind::InvalidData => {

@@ -5,12 +5,12 @@ ghost use Rattle.dmlw.specs.Commands.{EndsReplayingUpTo, IsSectorCount, name_of,
 ghost use Rattle.dmlw.specs.declared.program.Name.{Name};
 ghost use Rattle.dmlw.specs.declared.program.Name.TheVariants as names;
 ghost use Rattle.dmlw_commands.specs.declared.ending.Ended.{Ended};
-ghost use Rattle.dmlw_commands.specs.Ends.{Ends, exit_after, exit_by};
+ghost use Rattle.dmlw_commands.specs.Ends.{EndsAsCommand, exit_after, exit_by};
 ghost use Rattle.dmlw_commands.specs.Judgements.{AnswersOf, exit_answered, finding_meaning};
 ghost use Rattle.dmlw_commands.specs.Judgements.{verdict_meaning};
 ghost use Rattle.dmlw_commands.specs.Lists.{ListsImage, ShowsLog, ShowsStatus};
 ghost use Rattle.dmlw_commands.specs.LogCopies.{Copies};
-ghost use Rattle.dmlw_commands.specs.Records.{Records, of_recorder, of_seats};
+ghost use Rattle.dmlw_commands.specs.Records.{RecordsScript, of_recorder, of_seats};
 ghost use Rattle.dmlw_commands.specs.Seen.{Seen};
 ghost use Rattle.dmlw_commands.specs.Replays.{IsWhat};
 ghost use Rattle.replay.specs.declared.replaying.Upto.{Upto};
@@ -33,7 +33,7 @@ pub fn plain_words_record()
         → is_positional script ≡ true
         → is_positional log ≡ true
         → DoesWords (command_words program names.Record (script ∷ log ∷ [])) old new ended
-        → Ends (Records of_recorder script log) exit_after false old new ended }
+        → EndsAsCommand (RecordsScript of_recorder script log) exit_after false old new ended }
 {}
 
 /// `run SCRIPT LOG` runs the seats of the script in the file SCRIPT. If it is done, the file LOG
@@ -43,7 +43,7 @@ pub fn plain_words_run()
         → is_positional script ≡ true
         → is_positional log ≡ true
         → DoesWords (command_words program names.Run (script ∷ log ∷ [])) old new ended
-        → Ends (Records of_seats script log) exit_after false old new ended }
+        → EndsAsCommand (RecordsScript of_seats script log) exit_after false old new ended }
 {}
 
 /// `list LOG` prints the list of the log in the file LOG.
@@ -51,7 +51,7 @@ pub fn plain_words_list()
     ensures { (old new : Seen) (ended : Ended) (program log : List ℕ)
         → is_positional log ≡ true
         → DoesWords (command_words program names.List (log ∷ [])) old new ended
-        → Ends (ShowsLog ListsImage log) exit_by false old new ended }
+        → EndsAsCommand (ShowsLog ListsImage log) exit_by false old new ended }
 {}
 
 /// `status LOG` prints the status of the log in the file LOG.
@@ -59,7 +59,7 @@ pub fn plain_words_status()
     ensures { (old new : Seen) (ended : Ended) (program log : List ℕ)
         → is_positional log ≡ true
         → DoesWords (command_words program names.Status (log ∷ [])) old new ended
-        → Ends (ShowsLog ShowsStatus log) exit_by false old new ended }
+        → EndsAsCommand (ShowsLog ShowsStatus log) exit_by false old new ended }
 {}
 
 /// `replay LOG FIRST OUT WHAT` replays the log in the file LOG on the image in the file FIRST. WHAT
@@ -83,7 +83,7 @@ pub fn plain_words_copy()
         → is_positional out ≡ true
         → IsSectorCount word sectors
         → DoesWords (command_words program names.Copy (log ∷ out ∷ word ∷ [])) old new ended
-        → Ends (Copies log out sectors) exit_by false old new ended }
+        → EndsAsCommand (Copies log out sectors) exit_by false old new ended }
 {}
 
 /// `judge SCRIPT M IMAGE` prints whether a power failure after M events could leave the image on
@@ -93,7 +93,7 @@ pub fn plain_words_judge()
         → is_positional script ≡ true → IsNumber m moment
         → is_positional image ≡ true
         → DoesWords (command_words program names.Judge (script ∷ m ∷ image ∷ [])) old new ended
-        → Ends (AnswersOf verdict_meaning script moment image)
+        → EndsAsCommand (AnswersOf verdict_meaning script moment image)
         (exit_answered verdict_meaning) false old new ended }
 {}
 
@@ -104,6 +104,6 @@ pub fn plain_words_path()
         → is_positional script ≡ true → IsNumber m moment
         → is_positional image ≡ true
         → DoesWords (command_words program names.Path (script ∷ m ∷ image ∷ [])) old new ended
-        → Ends (AnswersOf finding_meaning script moment image)
+        → EndsAsCommand (AnswersOf finding_meaning script moment image)
         (exit_answered finding_meaning) false old new ended }
 {}

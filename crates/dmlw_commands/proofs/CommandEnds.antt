@@ -20,19 +20,19 @@ use Rattle.script_runner.specs.declared.tally.Tally.{Tally}
 use Rattle.script_runner.specs.DiskRun.{DiskRun, FailsOnDisks, IsRecorded, file as no_file}
 use Rattle.script_runner.specs.DiskRun.{run as no_run, unmade as unmade_log, stack_answering}
 use Rattle.script_runner.specs.Runs.{EndsRun, close, file as by_file, message}
-use Rattle.script_runner.specs.SeatRuns.{FailsRun, IsRun}
+use Rattle.script_runner.specs.SeatRuns.{FailsRun, RunsSeats}
 use Rattle.dmlw_files.specs.declared.files.FileError.{FileError}
 use Rattle.dmlw_files.specs.declared.files.FileError.TheVariants as errors
 use Rattle.dmlw_files.specs.Files.{KeepsFiles, MatchesContents, Write, file_refusal}
-use Rattle.dmlw_files.specs.Files.{one_more}
+use Rattle.dmlw_files.specs.Files.{with_write}
 use Rattle.dmlw_commands.specs.declared.ending.Ended.{Ended}
 use Rattle.dmlw_commands.specs.declared.exit.Exit.{Exit}
 use Rattle.dmlw_commands.specs.declared.exit.Exit.TheVariants.{Done, Refused}
-use Rattle.dmlw_commands.specs.Ends.{Ends, ErrStream, ReportsLine, err_stream, exit_by, exit_of}
+use Rattle.dmlw_commands.specs.Ends.{EndsAsCommand, ErrStream, ReportsLine, err_stream, exit_by, exit_of}
 use Rattle.dmlw_commands.specs.Ends.{fault_line, reported_line}
-use Rattle.dmlw_commands.specs.Makings.{Asks, FailsMaking, IsMade, Makes, Making, taken, unmade}
+use Rattle.dmlw_commands.specs.Makings.{AsksToWrite, FailsMaking, IsMade, MakesImage, Making, taken, unmade}
 use Rattle.dmlw_commands.specs.Makings.{unprinted, unwritten}
-use Rattle.dmlw_commands.specs.Records.{FailsRecording, Kind, PrintsLog, end_lines, file}
+use Rattle.dmlw_commands.specs.Records.{FailsRecording, ScriptKind, PrintsLog, end_lines, file}
 use Rattle.dmlw_commands.specs.Records.{of_recorder, of_seats, run as ran, seat_line, seat_lines}
 use Rattle.dmlw_commands.specs.Records.{text as unread}
 use Rattle.dmlw_commands.specs.Seen.{OnlyReads, Printing, Seen}
@@ -50,7 +50,7 @@ pub reads_end : {T : Type 0} (prints : (List ℕ → Option (List ℕ)) → Prin
     → prints old.files old.out mid done → Keeps mid new.out → new.writes ≡ old.writes
     → KeepsFiles old.files new.files
     → ReportsLine (err_stream explains old.err new.err) (exits done) (reported_line done) ended
-    → Ends (OnlyReads prints) exits explains old new ended
+    → EndsAsCommand (OnlyReads prints) exits explains old new ended
 reads_end prints exits explains old new mid done ended stable printed later same kept tells =
     record {
       done = done;
@@ -79,7 +79,7 @@ keeping_steady P old mid new fault (fails, none) kept = (fails, keeps_twice old 
 abbrev pub asks_for : {T : Type 0} (making : Making T) (name : List ℕ) (old new : Seen)
     (writes : Option (List Write)) (result : T) (lines image : List ℕ)
     → making.makes result lines image → Appends old.out new.out lines → writes ≡ old.writes
-    → new.writes ≡ one_more writes name image → Asks making name old new result
+    → new.writes ≡ with_write writes name image → AsksToWrite making name old new result
 asks_for making name old new writes result lines image made printed same asked = record {
   lines = lines;
   image = image;
@@ -93,13 +93,13 @@ pub makes_none : {T : Type 0} (making : (List ℕ → Option (List ℕ)) → Mak
     → IsErrAnd r Q
     → ((fault : RunError) → Q fault → FailsMaking (making old.files) read name old new fault)
     → KeepsFiles old.files new.files → (read ≡ name → new.writes ≡ old.writes)
-    → Makes making read name old new r
+    → MakesImage making read name old new r
 makes_none making read name old new (Ok result) fails why kept apart = absurd fails
 makes_none making read name old new (Err fault) fails why kept apart =
     record { came = (why fault fails, kept); apart = apart }
 
 abbrev asks_kept : {T : Type 0} (making : Making T) (name : List ℕ) (old mid new : Seen) (result : T)
-    → Asks making name old mid result → Stays mid new → Asks making name old new result
+    → AsksToWrite making name old mid result → Stays mid new → AsksToWrite making name old new result
 asks_kept making name old mid new result asks stays = record {
   lines = asks.lines;
   image = asks.image;
@@ -123,8 +123,8 @@ fails_kept making steady read name old mid new fault (unwritten is result asks) 
 
 makes_kept : {T : Type 0} (making : (List ℕ → Option (List ℕ)) → Making T)
     → ((files : List ℕ → Option (List ℕ)) → IsSteady (making files).fails) → (read name : List ℕ)
-    (old mid new : Seen) (done : Result T RunError) → Makes making read name old mid done
-    → Stays mid new → Makes making read name old new done
+    (old mid new : Seen) (done : Result T RunError) → MakesImage making read name old mid done
+    → Stays mid new → MakesImage making read name old new done
 makes_kept making steady read name old mid new (Ok result) makes stays =
     let made : IsMade (making old.files) name old mid result = makes.came in
     record {
@@ -146,9 +146,9 @@ pub makes_end : {T : Type 0} (making : (List ℕ → Option (List ℕ)) → Maki
     (exits : Result T RunError → Exit) (explains : Bool) (read name : List ℕ) (old mid new : Seen)
     (done : Result T RunError) (ended : Ended)
     → ((files : List ℕ → Option (List ℕ)) → IsSteady (making files).fails)
-    → Makes making read name old mid done → Stays mid new
+    → MakesImage making read name old mid done → Stays mid new
     → ReportsLine (err_stream explains old.err new.err) (exits done) (reported_line done) ended
-    → Ends (Makes making read name) exits explains old new ended
+    → EndsAsCommand (MakesImage making read name) exits explains old new ended
 makes_end making exits explains read name old mid new done ended steady makes stays tells = record {
   done = done;
   did = makes_kept making steady read name old mid new done makes stays;
@@ -170,7 +170,7 @@ pub done_or_refused : {T : Type 0} (making : (List ℕ → Option (List ℕ)) �
     (read name : List ℕ) (old new : Seen) (done : Result T RunError) (exit : Exit)
     → ((fault : RunError) → (making old.files).fails old.out new.out fault
     → exit_of fault ≡ Refused)
-    → Makes making read name old new done → exit ≡ exit_by done
+    → MakesImage making read name old new done → exit ≡ exit_by done
     → (exit ≡ Done) ⊎ (exit ≡ Refused)
 done_or_refused making read name old new (Ok result) exit refused makes is = inl is
 done_or_refused making read name old new (Err fault) exit refused makes is =
@@ -205,7 +205,7 @@ disks_kept text script old mid new fault (no_run start f starts ends) kept =
 pub seats_kept : (text : List ℕ) (script : RunPlan) → IsSteady (of_seats.fails text script)
 seats_kept text script = keeping_steady (FailsRun script)
 
-pub failure_kept : {S : Type 0} (kind : Kind S)
+pub failure_kept : {S : Type 0} (kind : ScriptKind S)
     → ((text : List ℕ) (script : S) → IsSteady (kind.fails text script))
     → (contents : Option (List ℕ)) → IsSteady (FailsRecording kind contents)
 failure_kept kind steady contents old mid new fault (file f is) kept = file f is
@@ -220,7 +220,7 @@ file_told errors.Unusable = inl refl
 file_told errors.Memory = inr refl
 
 -- `IsFaultAt` is what the script's reader proves about the line of its error.
-pub fails_unread : {S : Type 0} (kind : Kind S) (contents out : Option (List ℕ)) (text : List ℕ)
+pub fails_unread : {S : Type 0} (kind : ScriptKind S) (contents out : Option (List ℕ)) (text : List ℕ)
     (error : Fault) (fault : RunError) (IsFaultAt : Option ℕ → Type 0)
     → ((line : ℕ) → IsFaultAt (Some line)
     → kind.is_first_fault (lines_of text) line error.refusal)
@@ -240,7 +240,7 @@ fails_unread kind contents out text error fault IsFaultAt at none is wrong only 
         (λ script spells. let memory = only script spells in
         absurd (cc (ap (λ (e : Fault). e.line) memory, here))) (at number first) (keeps_same out)
 
-pub fails_run : {S : Type 0} (kind : Kind S) (contents before after : Option (List ℕ))
+pub fails_run : {S : Type 0} (kind : ScriptKind S) (contents before after : Option (List ℕ))
     (text : List ℕ) (script : S) (fault again : RunError) → MatchesContents contents text
     → kind.spells text script → kind.fails text script before after fault → again ≡ fault
     → FailsRecording kind contents before after again
@@ -248,7 +248,7 @@ fails_run kind contents before after text script fault again is spells ends same
     subst (FailsRecording kind contents before after) (sym same)
     (ran text script fault is spells ends)
 
-pub fails_by_file : {S : Type 0} (kind : Kind S) (contents before after : Option (List ℕ))
+pub fails_by_file : {S : Type 0} (kind : ScriptKind S) (contents before after : Option (List ℕ))
     (told fault : RunError) → IsFileError told → fault ≡ told
     → FailsRecording kind contents before after fault
 fails_by_file kind contents before after told fault is same =
@@ -277,7 +277,7 @@ pub run_printed : (contents : Option (List ℕ)) (text : List ℕ) (script : Run
     (before mid after : Option (List ℕ)) (shown tallies : List Tally) (status : Status)
     (lies : Lies) (image : List ℕ)
     → MatchesContents contents text → of_seats.spells text script
-    → IsRun script tallies status lies image → shown ≡ tallies
+    → RunsSeats script tallies status lies image → shown ≡ tallies
     → Appends before mid (seat_lines 0 shown) → Appends mid after (end_lines status lies)
     → PrintsLog of_seats contents status image before after
 run_printed contents text script before mid after shown tallies status lies image is spells run same

@@ -17,18 +17,18 @@ use Rattle.sector_disk.specs.DiskView.{shown_of}
 use Rattle.log_format.specs.declared.decode.Super.{Super}
 use Rattle.log_format.specs.declared.entry.Entry.{Entry}
 use Rattle.log_format.specs.EntryLaws.{sector_size_bounds}
-use Rattle.log_format.specs.LogOf.{IsLogOf, entries_at}
+use Rattle.log_format.specs.LogOf.{IsLogOf, log_entries_at}
 use Rattle.log_format.specs.Replay.{replay}
 use Rattle.log_store.specs.Calls.{HasFailed, StoreFrame}
-use Rattle.log_store.specs.Store.{Store, StoreInvariant, entries_of}
+use Rattle.log_store.specs.Store.{Store, StoreInvariant, store_entries}
 use Rattle.log_reader.specs.AnyDisk.{any_reading}
 use Rattle.log_reader.specs.declared.fault.LogFault.{LogFault}
 use Rattle.log_reader.specs.declared.fault.ReadDeviceError.TheVariants as reads
-use Rattle.log_reader.specs.DiskLog.{IsReading, Reads}
+use Rattle.log_reader.specs.DiskLog.{IsReading, ReadsDiskLog}
 use Rattle.log_reader.specs.DiskLogLaws.{log_is_read, same_reading, size_of_head}
 use Rattle.log_reader.specs.Reader.{HasFaulted, Reader}
 use Rattle.log_reader.specs.SameDiskLaws.{reads_alike}
-use Rattle.replay.specs.Copies.{HasNoRoom, IsCopied as IsPlaced, IsLog, StopsBy}
+use Rattle.replay.specs.Copies.{CopyHasNoRoom, EntriesAreCopied as IsPlaced, IsLog, CopyStopsBy}
 use Rattle.replay.specs.Copies.{entries_from, is_aligned_to, resized}
 use Rattle.replay.specs.declared.fault.CopyError.{CopyError}
 use Rattle.replay.specs.declared.fault.CopyError.TheVariants as copies
@@ -41,7 +41,7 @@ use Rattle.dmlw_commands.specs.declared.copy_log.images.Copied.{Copied}
 use Rattle.dmlw_commands.specs.declared.exit.Exit.TheVariants.{Refused}
 use Rattle.dmlw_commands.specs.Ends.{exit_of}
 use Rattle.dmlw_commands.specs.Lists.{Opens, RefusesImage}
-use Rattle.dmlw_commands.specs.LogCopies.{FailsCopy, FailsOnImage, HasStopCause, IsBegun, IsCopied}
+use Rattle.dmlw_commands.specs.LogCopies.{FailsCopy, FailsOnImage, CopyHasStopCause, IsBegun, IsCopied}
 use Rattle.dmlw_commands.specs.LogCopies.{IsCopiedFrom, IsCopiedOn, LacksRoom, StopsCopy, file}
 use Rattle.dmlw_commands.specs.LogCopies.{memory, of_image, stopped, unopened}
 
@@ -85,24 +85,24 @@ reading_on : (log : List ℕ) (r : Reader) (es : List Entry) (fault : Option Log
     → Opens log r → IsLog r es fault
     → IsReading log r.head es fault
 reading_on log r es fault image opened reading =
-    let R : ℕ → Type 0 = λ n. Reads n r.device.content r.head es fault in
+    let R : ℕ → Type 0 = λ n. ReadsDiskLog n r.device.content r.head es fault in
     reads_alike (length log / 512) r.device.content (sector_of log) r.head es fault
     (some_sector log image) opened.device.content (subst R opened.device.size reading)
 
 -- If as many entries can be read as the super block counts, the log has no fault.
 no_fault : (disk : ℕ) (c : Content) (head : Super) (es : List Entry) (fault : Option LogFault)
-    (count : ℕ) → Reads disk c head es fault → count ≡ head.count
+    (count : ℕ) → ReadsDiskLog disk c head es fault → count ≡ head.count
     → (0 < count → count ≤ length es) → (fault ≡ None) × (count ≡ length es)
 no_fault disk c head es None count reading all some =
     let counted : length es ≡ head.count = reading.end in (refl, all ∙ sym counted)
 no_fault disk c head es (Some found) count reading all some = grind (arith, length)
 
-begun_none : (sectors : ℕ) (v : Store) → IsBegun sectors v → entries_of v ≡ []
-begun_none sectors v begun = ap (entries_at v.sector_bytes v.device.content 1) begun.placed
+begun_none : (sectors : ℕ) (v : Store) → IsBegun sectors v → store_entries v ≡ []
+begun_none sectors v begun = ap (log_entries_at v.sector_bytes v.device.content 1) begun.placed
 
 placed_entries : (sectors from place count : ℕ) (es : List Entry) (v w : Store) → IsBegun sectors v
     → w.device.lies ≡ 0 → place ≡ 0
-    → IsPlaced from es place count v w → entries_of w ≡ map (resized from 4096) (take count es)
+    → IsPlaced from es place count v w → store_entries w ≡ map (resized from 4096) (take count es)
 placed_entries sectors from place count es v w begun honest first placed =
     grind (arith, placed.entries honest, begun_none sectors v begun, begun.sector_bytes, first)
 
@@ -120,7 +120,7 @@ pub copied_on : (log : List ℕ) (sectors count : ℕ) (r : Reader) (v w : Store
     → ((es : List Entry) (fault : Option LogFault) → IsLog r es fault
     → IsPlaced r.head.sectorsize es r.next count v w) → r.next + count ≡ r.head.count
     → (w.device.lies ≡ 0 → (left : Content) → w.device.crash left
-    → IsLogOf w.device.size left w.sector_bytes (entries_of w))
+    → IsLogOf w.device.size left w.sector_bytes (store_entries w))
     → IsCopiedOn log count sectors w.device
 copied_on log sectors count r v w image opened begun whole_sectors honest current goes placing
     counted whole =
@@ -185,19 +185,19 @@ image_left log sectors count disk some done =
 
 lacks_room : (sectors from place count : ℕ) (es : List Entry) (v w : Store) → IsBegun sectors v
     → StoreInvariant w → w.device.lies ≡ 0 → place ≡ 0 → StoreFrame v w
-    → IsPlaced from es place count v w → HasNoRoom from es (place + count) w
+    → IsPlaced from es place count v w → CopyHasNoRoom from es (place + count) w
     → LacksRoom from es count sectors
 lacks_room sectors from place count es v w begun kept honest first goes placed none =
     grind (arith, placed_entries, map, take)
 
--- The disks never fail and never lie, so only the causes in `HasStopCause` are left.
+-- The disks never fail and never lie, so only the causes in `CopyHasStopCause` are left.
 cause_on : (sectors applied : ℕ) (es : List Entry) (fault : Option LogFault) (r last : Reader)
     (v w : Store) (cause : CopyError) → IsBegun sectors v
     → r.next ≡ 0 → r.failed ≡ false → applied ≤ length es → (HasFaulted r.device last.device → ⊥)
     → (HasFailed v w → ⊥) → StoreInvariant w → w.device.lies ≡ 0
     → StoreFrame v w → IsPlaced r.head.sectorsize es r.next applied v w
-    → StopsBy es fault (r.next + applied) r last v w cause
-    → HasStopCause r.head es fault sectors applied cause
+    → CopyStopsBy es fault (r.next + applied) r last v w cause
+    → CopyHasStopCause r.head es fault sectors applied cause
 cause_on sectors applied es fault r last v w
     (copies.Log (reads.Log found)) begun first fresh within reader store kept honest goes placed
     is =
@@ -244,7 +244,7 @@ pub stopped_on : (log : List ℕ) (sectors : ℕ) (stop : CopyFault) (r last : R
     → StoreFrame v w → ((es : List Entry) (fault : Option LogFault) → IsLog r es fault
     → IsPlaced r.head.sectorsize es r.next stop.applied v w)
     → ((es : List Entry) (fault : Option LogFault) → IsLog r es fault
-    → StopsBy es fault (r.next + stop.applied) r last v w stop.cause)
+    → CopyStopsBy es fault (r.next + stop.applied) r last v w stop.cause)
     → StopsCopy log sectors stop
 stopped_on log sectors stop r last v w image opened begun whole_sectors reader store kept honest
     goes placing stopping =

@@ -38,9 +38,9 @@ use Rattle.script_runner.specs.CallLaws.{keeps_same, keeps_twice, appends_kept}
 use Rattle.script_runner.specs.DiskRun.{FailsRehearsal, IsRehearsed}
 use Rattle.dmlw_files.specs.declared.files.FileError.{FileError}
 use Rattle.dmlw_files.specs.declared.files.FileError.TheVariants as errors
-use Rattle.dmlw_files.specs.Files.{IsImage, IsWithin, MatchesContents, file_refusal, image_read}
+use Rattle.dmlw_files.specs.Files.{IsImage, FileIsWithin, MatchesContents, file_refusal, image_read}
 use Rattle.dmlw_commands.proofs.CommandEnds.{IsKept, file_told}
-use Rattle.dmlw_commands.specs.Judgements.{Answers, BeginsLog, CanJudge, CannotJudge, HasAnswer}
+use Rattle.dmlw_commands.specs.Judgements.{ReturnsAnswer, BeginsLog, CanJudge, CannotJudge, HasAnswer}
 use Rattle.dmlw_commands.specs.Judgements.{HasNoVerdict, HasVerdict, IsFound, IsJudged}
 use Rattle.dmlw_commands.specs.Judgements.{IsReplayedTo, Meaning, Question, blank, file}
 use Rattle.dmlw_commands.specs.Judgements.{moment as no_moment, question, replayed_first}
@@ -102,7 +102,7 @@ failed_text text image asked error fault whole wrong only output =
         absurd (cc (ap (λ (e : Fault). e.line) memory, here))) first
 
 pub failed_file : (asked : Question) (error : FileError) (fault : RunError)
-    → (IsWithin 4194304 asked.script → error ≡ errors.Memory)
+    → (FileIsWithin 4194304 asked.script → error ≡ errors.Memory)
     → fault ≡ refused_by (file_refusal error) → HasNoVerdict asked fault
 failed_file asked error fault readable is = grind (arith, file, file_told)
 
@@ -127,7 +127,7 @@ answer_of_files meaning asked text image answer script bytes has = record {
   judged = has.judged;
 }
 
-within_read : (file : Option (List ℕ)) (text : List ℕ) → IsWithin 4194304 file
+within_read : (file : Option (List ℕ)) (text : List ℕ) → FileIsWithin 4194304 file
     → MatchesContents file text → length text ≤ 4194304
 within_read None text few is = absurd few
 within_read (Some known) text few is = rw is few
@@ -166,7 +166,7 @@ pub answered_files : {A : Type 0} (meaning : Meaning A) (asked : Question) (text
     → IfOk done (λ answer. (answered ≡ Ok answer) × Appends before after (meaning.printed answer))
     → IfErr done (λ fault. (IsFileError fault × IsOk answered)
     ⊎ ((answered ≡ Err fault) × Keeps before after))
-    → Answers meaning asked before after done
+    → ReturnsAnswer meaning asked before after done
 answered_files {A = A} meaning asked text image before after answered (Ok answer) script bytes has
     none printed fails = grind (arith, answer_of_files)
 answered_files meaning asked text image before after (Ok answer) (Err fault) script bytes has none
@@ -181,13 +181,13 @@ answered_files {A = A} meaning asked text image before after answered (Err fault
 pub answered_none : {A : Type 0} (meaning : Meaning A) (asked : Question) (known : Option (List ℕ))
     {Q : RunError → Type 0} (r : Result A RunError) → IsErrAnd r Q
     → ((fault : RunError) → Q fault → HasNoVerdict asked fault)
-    → Answers meaning asked known known r
+    → ReturnsAnswer meaning asked known known r
 answered_none meaning asked known (Ok answer) fails why = absurd fails
 answered_none meaning asked known (Err fault) fails why =
     inl (why fault fails, keeps_same known)
 
 pub answers_kept : {A : Type 0} (meaning : Meaning A) (asked : Question)
-    → IsKept (Answers meaning asked)
+    → IsKept (ReturnsAnswer meaning asked)
 answers_kept meaning asked old mid new (Ok answer) (has, printed) kept =
     (has, appends_kept old mid new _ printed kept)
 answers_kept meaning asked old mid new (Err fault) (inl (none, same)) kept =
@@ -252,8 +252,8 @@ begun_yes possible size events moment count bytes right aligned well_formed begi
     possible size events (blank bytes) moment count right aligned well_formed begins.safe
     begins.belongs
 
-abbrev HoldsAt : List CoreEvent → Content → ℕ → List ℕ → Type 0
-HoldsAt events first sector value =
+abbrev HoldsAtMoment : List CoreEvent → Content → ℕ → List ℕ → Type 0
+HoldsAtMoment events first sector value =
     ((value ≡ first sector) × (has_kept events sector ≡ false))
     ⊎ ((id : ℕ) × (values_at (slice_get events id) sector ≡ Some value)
     × (is_replaced events sector id ≡ false))
@@ -262,7 +262,7 @@ same_possible : (events : List CoreEvent) (first now other : Content) (sector : 
     → other sector ≡ now sector → PossibleAt events first now sector
     → PossibleAt events first other sector
 same_possible events first now other sector same possible =
-    subst (HoldsAt events first sector) (sym same) possible
+    subst (HoldsAtMoment events first sector) (sym same) possible
 
 verdict_yes : BeginningsArePossible
     → (size : ℕ) (events : List CoreEvent) (sectors moment count : ℕ) (image : List ℕ)

@@ -8,7 +8,7 @@ use Rattle.blockdev.specs.View.{View}
 use Rattle.blockdev.specs.Law.{NoLie}
 use Rattle.bio.specs.declared.outcome.DevError.TheVariants as devices
 use Rattle.sector_disk.specs.declared.disk.SectorDisk.{SectorDisk}
-use Rattle.sector_disk.specs.DiskView.{Begins, shown_of}
+use Rattle.sector_disk.specs.DiskView.{PastBegins, shown_of}
 use Rattle.sector_disk.specs.CandidateLaws.{content_whole}
 use Rattle.sector_disk.specs.RamView.{DoesInRam, HoldsImage, ram_view}
 use Rattle.sector_disk.specs.declared.disk.ram.RamDisk.{RamDisk}
@@ -25,7 +25,7 @@ use Rattle.log_reader.specs.declared.fault.LogFault.{LogFault}
 use Rattle.log_reader.specs.declared.fault.ReadDeviceError.TheVariants as reads
 use Rattle.log_reader.specs.SameDiskLaws.{reads_alike}
 use Rattle.log_reader.specs.Reader.{HasFaulted}
-use Rattle.log_reader.specs.DiskLog.{IsReading, Reads}
+use Rattle.log_reader.specs.DiskLog.{IsReading, ReadsDiskLog}
 use Rattle.log_reader.specs.Refusals.{open_device_refusal}
 use Rattle.replay.specs.ResizeLaws.{replay_alike}
 use Rattle.replay.specs.declared.fault.ReplayError.{ReplayError}
@@ -41,8 +41,8 @@ use Rattle.refusals.specs.Errors.{memory_error, refused_by}
 use Rattle.dmlw_files.specs.Files.{IsImage, MatchesContents, image_of}
 use Rattle.dmlw_commands.specs.Lists.{RefusesImage}
 use Rattle.dmlw_commands.specs.declared.replay_log.images.Replayed.{Replayed}
-use Rattle.dmlw_commands.specs.Replays.{AreImages, FailsOnImages, FailsReplay, HasStopCause}
-use Rattle.dmlw_commands.specs.Replays.{IsReplayed, IsReplayedFrom, IsReplayedOn, StopsReplay, file}
+use Rattle.dmlw_commands.specs.Replays.{AreImages, FailsOnImages, FailsReplay, ReplayHasStopCause}
+use Rattle.dmlw_commands.specs.Replays.{ImageIsReplayed, IsReplayedFrom, IsReplayedOn, StopsReplay, file}
 use Rattle.dmlw_commands.specs.Replays.{images, memory, stop_by, stopped, unopened}
 use Rattle.dmlw_commands.specs.declared.exit.Exit.TheVariants.{Refused}
 use Rattle.dmlw_commands.specs.Ends.{exit_of}
@@ -61,7 +61,7 @@ fails_to_open log first upto fault stop (inr refuses) same =
 
 pub replayed_from : (log_file first_file : Option (List ℕ)) (log first : List ℕ) (upto : Upto)
     (r : Result Replayed RunError) → AreImages log_file first_file log first
-    → IfOk r (λ done. IsReplayed log first upto done.count (image_of done.disk))
+    → IfOk r (λ done. ImageIsReplayed log first upto done.count (image_of done.disk))
     → IfOk r (λ done. IsReplayedFrom log_file first_file upto done.count (image_of done.disk))
 replayed_from log_file first_file log first upto (Ok done) are is =
     record { log = log; first = first; files = are; replayed = is }
@@ -86,16 +86,16 @@ both_images log_file first_file now log first log_read log_image first_read firs
     }
 
 reading_on : (log : List ℕ) (v : View) (head : Super) (es : List Entry) (fault : Option LogFault)
-    → IsImage log → Begins (length log / 512) (sector_of log) v
-    → Reads v.size v.content head es fault → IsReading log head es fault
+    → IsImage log → PastBegins (length log / 512) (sector_of log) v
+    → ReadsDiskLog v.size v.content head es fault → IsReading log head es fault
 reading_on log v head es fault image begins reads =
-    let R : ℕ → Type 0 = λ n. Reads n v.content head es fault in
+    let R : ℕ → Type 0 = λ n. ReadsDiskLog n v.content head es fault in
     reads_alike (length log / 512) v.content (sector_of log) head es fault (some_sector log image)
     (λ s below. sym (begins.content s below))
     (subst R begins.size reads)
 
 pub replayed_on : (log first : List ℕ) (upto : Upto) (count : ℕ) (disk v w : View) → IsImage log
-    → Begins (length log / 512) (sector_of log) disk
+    → PastBegins (length log / 512) (sector_of log) disk
     → HoldsImage first v → w.size ≡ v.size → NoLie v w
     → IsReopened disk upto count v w → IsReplayedOn log first upto count w
 replayed_on log first upto count disk v w image log_begins begins size no_lie done =
@@ -107,12 +107,12 @@ replayed_on log first upto count disk v w image log_begins begins size no_lie do
           done.entries done.fault image log_begins done.reading,
     )
 
--- The disks never fail, so only the causes in `HasStopCause` are left.
+-- The disks never fail, so only the causes in `ReplayHasStopCause` are left.
 cause_on : (es : List Entry) (fault : Option LogFault) (upto : Upto) (head : Super)
     (log last v w : View) (disk applied : ℕ) (cause : ReplayError)
     → v.size ≡ disk → (HasFaulted log last → ⊥) → (cause ≡ replays.Target devices.Io → ⊥)
     → HasReplayCause es fault upto (first_reader log head)
-    (first_reader last head) v w applied cause → HasStopCause upto head es fault disk applied cause
+    (first_reader last head) v w applied cause → ReplayHasStopCause upto head es fault disk applied cause
 cause_on es fault upto head log last v w disk applied replays.PastEntries size reader target asks =
     asks
 cause_on es fault upto head log last v w disk applied replays.NoSuchMark size reader target lacks =
@@ -151,7 +151,7 @@ applied_within size es old new applied (replays.Target error) leaves more =
     let there = slice_get_within es (0 + applied) leaves.next leaves.there in omega arith
 
 pub stopped_on : (log first : List ℕ) (upto : Upto) (stop : ReplayFault) (disk last v w : View)
-    → IsImage log → Begins (length log / 512) (sector_of log) disk
+    → IsImage log → PastBegins (length log / 512) (sector_of log) disk
     → HoldsImage first v → (HasFaulted disk last → ⊥)
     → (stop.cause ≡ replays.Target devices.Io → ⊥) → NoLie v w → IsStopped disk last upto v w stop
     → StopsReplay log first upto stop
@@ -190,10 +190,10 @@ no_io size es old new applied other calls is = cc
 
 pub fails_on : (log first : List ℕ) (upto : Upto) (error : ReopenError) (stop : RunError)
     (disk last : View) (old new : RamDisk) → IsImage log
-    → Begins (length log / 512) (sector_of log) disk → HoldsImage first (ram_view old)
+    → PastBegins (length log / 512) (sector_of log) disk → HoldsImage first (ram_view old)
     → (HasFaulted disk last → ⊥) → NoLie (ram_view old) (ram_view new)
     → ((head : Super) (es : List Entry) (fault : Option LogFault)
-    → Reads disk.size disk.content head es fault
+    → ReadsDiskLog disk.size disk.content head es fault
     → DoesReplay DoesInRam head.sectorsize es old new (Err error))
     → IsRefused disk last upto (ram_view old) (ram_view new) error → stop ≡ stop_by error
     → FailsOnImages log first upto stop
@@ -210,7 +210,7 @@ fails_on log first upto (reopens.Replay fault) stop disk last old new image log_
     fault.cause (does refused.head refused.entries refused.fault refused.reading)) no_lie refused))
 
 pub kept_on : (log first : List ℕ) (upto : Upto) (count : ℕ) (v w : View) → IsImage first
-    → IsReplayedOn log first upto count v → Begins v.size v.content w
+    → IsReplayedOn log first upto count v → PastBegins v.size v.content w
     → IsReplayedOn log first upto count w
 kept_on log first upto count v w image done begins = record {
   head = done.head;
@@ -227,7 +227,7 @@ kept_on log first upto count v w image done begins = record {
 
 pub image_left : (log first : List ℕ) (upto : Upto) (count : ℕ) (disk : SectorDisk) → IsImage first
     → IsReplayedOn log first upto count (shown_of disk)
-    → IsReplayed log first upto count (image_of disk)
+    → ImageIsReplayed log first upto count (image_of disk)
 image_left log first upto count disk is done =
     let w = shown_of disk in
     let size : w.size ≡ length first / 512 = done.size in

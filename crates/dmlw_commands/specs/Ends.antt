@@ -12,15 +12,15 @@ use Rattle.dmlw_commands.specs.declared.ending.Ended.{Ended}
 use Rattle.dmlw_commands.specs.declared.exit.Exit.{Exit}
 use Rattle.dmlw_commands.specs.declared.exit.Exit.TheVariants.{RuledOut, Done, Refused, Usage}
 use Rattle.dmlw_commands.specs.declared.exit.Exit.TheVariants.{LoggingEnded}
-use Rattle.dmlw_commands.specs.Seen.{Does, Seen}
+use Rattle.dmlw_commands.specs.Seen.{Effect, Seen}
 
 -- The program's exit status.
-abbrev pub status_of : Exit → ℕ
-status_of Done = 0
-status_of Refused = 1
-status_of Usage = 2
-status_of LoggingEnded = 3
-status_of RuledOut = 1
+abbrev pub exit_status_of : Exit → ℕ
+exit_status_of Done = 0
+exit_status_of Refused = 1
+exit_status_of Usage = 2
+exit_status_of LoggingEnded = 3
+exit_status_of RuledOut = 1
 
 -- The exit of a command that ends with this fault.
 abbrev pub exit_of : RunError → Exit
@@ -79,12 +79,12 @@ pub record ReportsLine (t : ErrStream) (exit : Exit) (line : List ℕ) (ended : 
 
 -- A command with the result `done` ends with the exit of `done`. It reports the line of its fault,
 -- or no line if `done` is Ok.
-abbrev pub Tells : {T : Type 0} → ErrStream → Result T RunError → Ended → Type 0
-Tells t done ended = ReportsLine t (exit_by done) (reported_line done) ended
+abbrev pub ReportsFault : {T : Type 0} → ErrStream → Result T RunError → Ended → Type 0
+ReportsFault t done ended = ReportsLine t (exit_by done) (reported_line done) ended
 
 -- The command did what `does` says, with the result `done`. It ends with the exit `exits done`. It
 -- reports the line of its fault, or no line if `done` is Ok.
-pub record Ends {T : Type 0} (does : Does T) (exits : Result T RunError → Exit) (explains : Bool)
+pub record EndsAsCommand {T : Type 0} (does : Effect T) (exits : Result T RunError → Exit) (explains : Bool)
     (old new : Seen) (ended : Ended) : Type 0 where
   pub done : Result T RunError
   pub did : does old new done

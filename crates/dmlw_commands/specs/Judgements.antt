@@ -29,12 +29,12 @@ use Rattle.dmlw_script.specs.Grammar.{IsTextOf}
 use Rattle.dmlw_script.specs.Words.{lines_of}
 use Rattle.dmlw_script.specs.Plans.{ScriptValue, top_of}
 use Rattle.script_runner.specs.DiskRun.{FailsRehearsal, IsRehearsed}
-use Rattle.dmlw_files.specs.Files.{HoldsImage, IsImage, IsWithin, MatchesContents}
+use Rattle.dmlw_files.specs.Files.{FileHoldsImage, IsImage, FileIsWithin, MatchesContents}
 use Rattle.dmlw_commands.specs.declared.exit.Exit.{Exit}
 use Rattle.dmlw_commands.specs.declared.exit.Exit.TheVariants as exits
 use Rattle.dmlw_commands.specs.Ends.{exit_of}
 use Rattle.dmlw_commands.specs.Records.{IsNoScript, of_recorder}
-use Rattle.dmlw_commands.specs.Seen.{Does, OnlyReads}
+use Rattle.dmlw_commands.specs.Seen.{Effect, OnlyReads}
 
 -- The content of an image of `count` zero bytes.
 abbrev pub blank : ℕ → Content
@@ -105,7 +105,7 @@ pub record HasAnswer {A : Type 0} (meaning : Meaning A) (asked : Question)
 
 -- It is known that the script's file has at most 4 MiB, and that the image's file holds an image.
 abbrev pub AreUsable : Question → Type 0
-AreUsable asked = IsWithin 4194304 asked.script × HoldsImage asked.image
+AreUsable asked = FileIsWithin 4194304 asked.script × FileHoldsImage asked.image
 
 -- Why there is no answer.
 -- - `file`: a file can't be read, is too long, or holds no image; or memory ran out. If both files
@@ -131,11 +131,11 @@ pub data HasNoVerdict (asked : Question) : RunError → Type 0 where
 -- The result of a question, and what the output got. If the result is Ok, it is the answer, and the
 -- answer was printed. If it is a fault, there is no answer and nothing was printed, or there is an
 -- answer but printing it failed.
-abbrev pub Answers : {A : Type 0} → Meaning A → Question → Option (List ℕ) → Option (List ℕ)
+abbrev pub ReturnsAnswer : {A : Type 0} → Meaning A → Question → Option (List ℕ) → Option (List ℕ)
     → Result A RunError → Type 0
-Answers meaning asked before after (Ok answer) =
+ReturnsAnswer meaning asked before after (Ok answer) =
     HasAnswer meaning asked answer × Appends before after (meaning.printed answer)
-Answers {A = A} meaning asked before after (Err fault) =
+ReturnsAnswer {A = A} meaning asked before after (Err fault) =
     (HasNoVerdict asked fault × Keeps before after)
     ⊎ (IsFileError fault × (answer : A) × HasAnswer meaning asked answer)
 
@@ -152,9 +152,9 @@ question_of files script count image =
 
 -- What `judge` and `path` do: they answer the question about the files `script` and `image`. They
 -- only read files.
-abbrev pub AnswersOf : {A : Type 0} → Meaning A → List ℕ → ℕ → List ℕ → Does A
+abbrev pub AnswersOf : {A : Type 0} → Meaning A → List ℕ → ℕ → List ℕ → Effect A
 AnswersOf meaning script count image =
-    OnlyReads (λ files. Answers meaning (question_of files script count image))
+    OnlyReads (λ files. ReturnsAnswer meaning (question_of files script count image))
 
 -- The line that `judge` prints.
 abbrev pub verdict_line : Verdict → List ℕ

@@ -24,10 +24,10 @@ use Rattle.replay.specs.declared.fault.CopyError.{CopyError}
 use Rattle.replay.specs.declared.fault.CopyError.TheVariants as copies
 use Rattle.replay.specs.declared.fault.CopyFault.{CopyFault}
 use Rattle.replay.specs.Refusals.{copy_refusal}
-use Rattle.dmlw_files.specs.Files.{HoldsImage, IsImage, MatchesContents}
+use Rattle.dmlw_files.specs.Files.{FileHoldsImage, IsImage, MatchesContents}
 use Rattle.dmlw_commands.specs.Lists.{RefusesImage}
-use Rattle.dmlw_commands.specs.Makings.{Makes, Making}
-use Rattle.dmlw_commands.specs.Seen.{Does}
+use Rattle.dmlw_commands.specs.Makings.{MakesImage, Making}
+use Rattle.dmlw_commands.specs.Seen.{Effect}
 
 -- The line that `copy` prints: how many entries it copied.
 abbrev pub copied_line : ℕ → List ℕ
@@ -58,16 +58,16 @@ pub record LacksRoom (from : ℕ) (es : List Entry) (place sectors : ℕ) : Type
 -- Why a copy stopped after `applied` entries. The old log has the super block `head`, the entries
 -- `es` and the fault `fault`. The new log's disk has `sectors` sectors. If memory ran out, nothing
 -- more is claimed.
-abbrev pub HasStopCause : Super → List Entry → Option LogFault → ℕ → ℕ → CopyError → Type 0
-HasStopCause head es fault sectors applied (copies.Log (reads.Log found)) =
+abbrev pub CopyHasStopCause : Super → List Entry → Option LogFault → ℕ → ℕ → CopyError → Type 0
+CopyHasStopCause head es fault sectors applied (copies.Log (reads.Log found)) =
     (fault ≡ Some found) × (applied ≡ length es)
-HasStopCause head es fault sectors applied (copies.Log reads.Memory) = Unit {0}
-HasStopCause head es fault sectors applied copies.Unaligned =
+CopyHasStopCause head es fault sectors applied (copies.Log reads.Memory) = Unit {0}
+CopyHasStopCause head es fault sectors applied copies.Unaligned =
     IsUnaligned head.sectorsize 4096 es applied
-HasStopCause head es fault sectors applied (copies.Store ends.Full) =
+CopyHasStopCause head es fault sectors applied (copies.Store ends.Full) =
     LacksRoom head.sectorsize es applied sectors
-HasStopCause head es fault sectors applied (copies.Store ends.Memory) = Unit {0}
-HasStopCause head es fault sectors applied other = ⊥
+CopyHasStopCause head es fault sectors applied (copies.Store ends.Memory) = Unit {0}
+CopyHasStopCause head es fault sectors applied other = ⊥
 
 -- The copy of the log in the image `log` to a disk of `sectors` sectors stopped with `stop`.
 pub record StopsCopy (log : List ℕ) (sectors : ℕ) (stop : CopyFault) : Type 0 where
@@ -77,7 +77,7 @@ pub record StopsCopy (log : List ℕ) (sectors : ℕ) (stop : CopyFault) : Type 
   pub reading : IsReading log head entries fault
   pub within : stop.applied ≤ length entries
   pub aligned : IsTrue (list_all (is_aligned_to head.sectorsize 4096) (take stop.applied entries))
-  pub cause : HasStopCause head entries fault sectors stop.applied stop.cause
+  pub cause : CopyHasStopCause head entries fault sectors stop.applied stop.cause
 
 -- The command's fault if a copy stopped.
 abbrev pub copy_stopped : CopyFault → RunError
@@ -97,7 +97,7 @@ pub data FailsOnImage (log : List ℕ) (sectors : ℕ) : RunError → Type 0 whe
 --   fault is that memory ran out.
 -- - `of_image`: the copy of the file's image fails.
 pub data FailsCopy (log_file : Option (List ℕ)) (sectors : ℕ) : RunError → Type 0 where
-  file : (fault : RunError) → IsFileError fault → (HoldsImage log_file → fault ≡ memory_error)
+  file : (fault : RunError) → IsFileError fault → (FileHoldsImage log_file → fault ≡ memory_error)
       → FailsCopy log_file sectors fault
   of_image : (log : List ℕ) (stop : RunError) → MatchesContents log_file log → IsImage log
       → FailsOnImage log sectors stop → FailsCopy log_file sectors stop
@@ -121,8 +121,8 @@ copying log_file sectors = record {
 
 -- What `copy` does: it copies the log in the file `log` to a disk of `sectors` sectors. The file
 -- `name` gets the disk's image.
-abbrev pub Copies : List ℕ → List ℕ → ℕ → Does ℕ
-Copies log name sectors = Makes (λ files. copying (files log) sectors) log name
+abbrev pub Copies : List ℕ → List ℕ → ℕ → Effect ℕ
+Copies log name sectors = MakesImage (λ files. copying (files log) sectors) log name
 
 -- A finished copy, on disks in memory: what the new log's disk holds.
 

@@ -4,7 +4,7 @@ use Rattle.std.specs.Io.KnownBytes.{Appends, Keeps}
 use Rattle.refusals.specs.declared.refusal.Refusal.TheVariants as refusals
 use Rattle.refusals.specs.declared.run_error.RunError.{RunError}
 use Rattle.refusals.specs.Errors.{IsFileError, refused_by}
-use Rattle.dmlw_files.specs.Files.{KeepsFiles, MatchesContents, one_more}
+use Rattle.dmlw_files.specs.Files.{KeepsFiles, MatchesContents, with_write}
 use Rattle.dmlw_commands.specs.Seen.{Seen}
 
 -- What a command makes.
@@ -16,18 +16,18 @@ pub record Making (T : Type 0) : Type 1 where
 
 -- The command made an image with the result `result`, and printed its lines. It asked for one more
 -- write: the image to the file `name`.
-pub record Asks {T : Type 0} (making : Making T) (name : List ℕ) (old new : Seen)
+pub record AsksToWrite {T : Type 0} (making : Making T) (name : List ℕ) (old new : Seen)
     (result : T) : Type 0 where
   pub lines : List ℕ
   pub image : List ℕ
   pub made : making.makes result lines image
   pub printed : Appends old.out new.out lines
-  pub asked : new.writes ≡ one_more old.writes name image
+  pub asked : new.writes ≡ with_write old.writes name image
 
--- The same as `Asks`, and the file `name` holds the image, if its content is known.
+-- The same as `AsksToWrite`, and the file `name` holds the image, if its content is known.
 pub record IsMade {T : Type 0} (making : Making T) (name : List ℕ) (old new : Seen)
     (result : T) : Type 0 where
-  pub asks : Asks making name old new result
+  pub asks : AsksToWrite making name old new result
   pub held : MatchesContents (new.files name) asks.image
 
 -- Why a command that makes an image fails.
@@ -48,12 +48,12 @@ pub data FailsMaking {T : Type 0} (making : Making T) (read name : List ℕ) (ol
   unprinted : IsFileError fault → (result : T) (lines image : List ℕ)
       → making.makes result lines image → new.writes ≡ old.writes
       → FailsMaking making read name old new fault
-  unwritten : IsFileError fault → (result : T) → Asks making name old new result
+  unwritten : IsFileError fault → (result : T) → AsksToWrite making name old new result
       → FailsMaking making read name old new fault
 
 -- The result of a command that reads the file `read` and makes an image for the file `name`. If it
 -- succeeds, the file `name` holds the image. If it fails, each file holds what it held.
-pub record Makes {T : Type 0} (making : (List ℕ → Option (List ℕ)) → Making T) (read name : List ℕ)
+pub record MakesImage {T : Type 0} (making : (List ℕ → Option (List ℕ)) → Making T) (read name : List ℕ)
     (old new : Seen) (done : Result T RunError) : Type 0 where
   pub came : MatchResult done (IsMade (making old.files) name old new)
       (λ fault. FailsMaking (making old.files) read name old new fault

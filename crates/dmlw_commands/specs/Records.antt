@@ -17,10 +17,10 @@ use Rattle.dmlw_script.specs.RunPlans.{RunPlan}
 use Rattle.script_runner.specs.declared.recording.Lies.{Lies}
 use Rattle.script_runner.specs.declared.tally.Tally.{Tally}
 use Rattle.script_runner.specs.DiskRun.{FailsOnDisks, IsRecorded}
-use Rattle.script_runner.specs.SeatRuns.{FailsRun, IsRun}
+use Rattle.script_runner.specs.SeatRuns.{FailsRun, RunsSeats}
 use Rattle.dmlw_files.specs.Files.{MatchesContents}
-use Rattle.dmlw_commands.specs.Makings.{Makes, Making}
-use Rattle.dmlw_commands.specs.Seen.{Does}
+use Rattle.dmlw_commands.specs.Makings.{MakesImage, Making}
+use Rattle.dmlw_commands.specs.Seen.{Effect}
 
 -- The line that prints a log's status.
 abbrev pub status_line : Status → List ℕ
@@ -49,7 +49,7 @@ end_lines status lies = status_line status ++ lies_line lies
 --   log's disk.
 -- - `fails`: a run of the script with this text fails with the fault, the last argument. The others
 --   are the output before and after.
-pub record Kind (S : Type 0) : Type 1 where
+pub record ScriptKind (S : Type 0) : Type 1 where
   pub spells : List ℕ → S → Type 0
   pub is_first_fault : List (List ℕ) → ℕ → Refusal → Type 0
   pub runs : S → List ℕ → Status → List ℕ → Type 0
@@ -57,7 +57,7 @@ pub record Kind (S : Type 0) : Type 1 where
 
 -- The script in the file was run. It printed `lines`, its log has `status`, and `image` is the
 -- image of the log's disk.
-pub record IsLogged {S : Type 0} (kind : Kind S) (contents : Option (List ℕ)) (status : Status)
+pub record IsLogged {S : Type 0} (kind : ScriptKind S) (contents : Option (List ℕ)) (status : Status)
     (lines image : List ℕ) : Type 0 where
   pub text : List ℕ
   pub script : S
@@ -66,20 +66,20 @@ pub record IsLogged {S : Type 0} (kind : Kind S) (contents : Option (List ℕ)) 
   pub ran : kind.runs script lines status image
 
 -- The script in the file was run, with `status` and `image`, and its lines were printed.
-abbrev pub PrintsLog : {S : Type 0} → Kind S → Option (List ℕ) → Status → List ℕ → Option (List ℕ)
+abbrev pub PrintsLog : {S : Type 0} → ScriptKind S → Option (List ℕ) → Status → List ℕ → Option (List ℕ)
     → Option (List ℕ) → Type 0
 PrintsLog kind contents status image before after =
     (lines : List ℕ) × IsLogged kind contents status lines image × Appends before after lines
 
 -- The text isn't a script of this kind.
-abbrev pub IsNoScript : {S : Type 0} → Kind S → List ℕ → Type 0
+abbrev pub IsNoScript : {S : Type 0} → ScriptKind S → List ℕ → Type 0
 IsNoScript {S = S} kind text = (script : S) → kind.spells text script → ⊥
 
 -- Why recording the script in a file fails.
 -- - `file`: a file or the output can't be used, or memory ran out.
 -- - `text`: the file isn't a script. The fault names its first faulty line, and nothing is printed.
 -- - `run`: the script's run failed.
-pub data FailsRecording {S : Type 0} (kind : Kind S) (contents before after : Option (List ℕ))
+pub data FailsRecording {S : Type 0} (kind : ScriptKind S) (contents before after : Option (List ℕ))
     : RunError → Type 0 where
   file : (fault : RunError) → IsFileError fault → FailsRecording kind contents before after fault
   text : (bytes : List ℕ) (line : ℕ) (refusal : Refusal) → MatchesContents contents bytes
@@ -92,14 +92,14 @@ pub data FailsRecording {S : Type 0} (kind : Kind S) (contents before after : Op
       → FailsRecording kind contents before after fault
 
 -- What recording the script in a file makes: the image of the log's disk.
-abbrev pub recording : {S : Type 0} → Kind S → Option (List ℕ) → Making Status
+abbrev pub recording : {S : Type 0} → ScriptKind S → Option (List ℕ) → Making Status
 recording kind contents =
     record { makes = IsLogged kind contents; fails = FailsRecording kind contents }
 
 -- What `record` and `run` do: they record the script in the file `script`. The file `log` gets the
 -- image of the log's disk.
-abbrev pub Records : {S : Type 0} → Kind S → List ℕ → List ℕ → Does Status
-Records kind script log = Makes (λ files. recording kind (files script)) script log
+abbrev pub RecordsScript : {S : Type 0} → ScriptKind S → List ℕ → List ℕ → Effect Status
+RecordsScript kind script log = MakesImage (λ files. recording kind (files script)) script log
 
 -- `script` was recorded: its log has `status`, and `image` is the image of the log's disk. `lines`
 -- are the output of the script's lines, then the lines at the end.
@@ -111,7 +111,7 @@ pub record IsRecordedBy (script : ScriptValue) (lines : List ℕ) (status : Stat
   pub output : lines ≡ ran ++ end_lines status lies
 
 -- The kind of script that `record` takes.
-abbrev pub of_recorder : Kind ScriptValue
+abbrev pub of_recorder : ScriptKind ScriptValue
 of_recorder = record {
   spells = IsTextOf;
   is_first_fault = IsFirstFault;
@@ -146,11 +146,11 @@ pub record IsRunBySeats (script : RunPlan) (lines : List ℕ) (status : Status)
     (image : List ℕ) : Type 0 where
   pub tallies : List Tally
   pub lies : Lies
-  pub ran : IsRun script tallies status lies image
+  pub ran : RunsSeats script tallies status lies image
   pub output : lines ≡ run_lines tallies status lies
 
 -- The kind of script that `run` takes. If a run fails, nothing is printed.
-abbrev pub of_seats : Kind RunPlan
+abbrev pub of_seats : ScriptKind RunPlan
 of_seats = record {
   spells = IsRunText;
   is_first_fault = IsFirstRunFault;

@@ -26,10 +26,10 @@ use Rattle.replay.specs.Replays.{AsksTooMany, EndsShort, IsUpto, LacksFlush, Lac
 use Rattle.replay.specs.Replays.{entries_from}
 use Rattle.headline.specs.declared.reopening.ReopenError.{ReopenError}
 use Rattle.headline.specs.declared.reopening.ReopenError.TheVariants as reopens
-use Rattle.dmlw_files.specs.Files.{HoldsImage, IsImage, MatchesContents}
+use Rattle.dmlw_files.specs.Files.{FileHoldsImage, IsImage, MatchesContents}
 use Rattle.dmlw_commands.specs.Lists.{RefusesImage}
-use Rattle.dmlw_commands.specs.Makings.{Makes, Making}
-use Rattle.dmlw_commands.specs.Seen.{Does}
+use Rattle.dmlw_commands.specs.Makings.{MakesImage, Making}
+use Rattle.dmlw_commands.specs.Seen.{Effect}
 
 -- The line that `replay` prints: how many entries it replayed.
 abbrev pub replayed_line : ℕ → List ℕ
@@ -44,7 +44,7 @@ pub record AreImages (log_file first_file : Option (List ℕ)) (log first : List
 
 -- `upto` asks for the first `count` entries of the log in the image `log`. `image` has the size of
 -- the image `first`, and the content of `first` after these entries are replayed.
-pub record IsReplayed (log first : List ℕ) (upto : Upto) (count : ℕ) (image : List ℕ) : Type 0 where
+pub record ImageIsReplayed (log first : List ℕ) (upto : Upto) (count : ℕ) (image : List ℕ) : Type 0 where
   pub head : Super
   pub entries : List Entry
   pub fault : Option LogFault
@@ -58,20 +58,20 @@ pub record IsReplayed (log first : List ℕ) (upto : Upto) (count : ℕ) (image 
 -- Why a replay stopped after `applied` entries on a disk of `disk` sectors. The log has the super
 -- block `head`, the entries `es` and the fault `fault`. Its reader had not failed before. If memory
 -- ran out, nothing more is claimed.
-abbrev pub HasStopCause : Upto → Super → List Entry → Option LogFault → ℕ → ℕ → ReplayError → Type 0
-HasStopCause upto head es fault disk applied replays.PastEntries =
+abbrev pub ReplayHasStopCause : Upto → Super → List Entry → Option LogFault → ℕ → ℕ → ReplayError → Type 0
+ReplayHasStopCause upto head es fault disk applied replays.PastEntries =
     (applied ≡ 0) × AsksTooMany upto head.count 0
-HasStopCause upto head es fault disk applied replays.NoSuchMark =
+ReplayHasStopCause upto head es fault disk applied replays.NoSuchMark =
     (applied ≡ 0) × LacksMark upto es 0 × (fault ≡ None)
-HasStopCause upto head es fault disk applied replays.NoFlush =
+ReplayHasStopCause upto head es fault disk applied replays.NoFlush =
     (applied ≡ 0) × LacksFlush upto es 0 × (fault ≡ None)
-HasStopCause upto head es fault disk applied replays.PastTarget =
+ReplayHasStopCause upto head es fault disk applied replays.PastTarget =
     ReachesPast head.sectorsize es applied disk
-HasStopCause upto head es fault disk applied (replays.Log (reads.Log found)) =
+ReplayHasStopCause upto head es fault disk applied (replays.Log (reads.Log found)) =
     (fault ≡ Some found) × EndsShort upto es 0 applied
-HasStopCause upto head es fault disk applied (replays.Log reads.Memory) = Unit {0}
-HasStopCause upto head es fault disk applied (replays.Target devices.Memory) = Unit {0}
-HasStopCause upto head es fault disk applied other = ⊥
+ReplayHasStopCause upto head es fault disk applied (replays.Log reads.Memory) = Unit {0}
+ReplayHasStopCause upto head es fault disk applied (replays.Target devices.Memory) = Unit {0}
+ReplayHasStopCause upto head es fault disk applied other = ⊥
 
 -- The replay of the log in the image `log` on the image `first` stopped with `stop`.
 pub record StopsReplay (log first : List ℕ) (upto : Upto) (stop : ReplayFault) : Type 0 where
@@ -80,7 +80,7 @@ pub record StopsReplay (log first : List ℕ) (upto : Upto) (stop : ReplayFault)
   pub fault : Option LogFault
   pub reading : IsReading log head entries fault
   pub within : 0 < stop.applied → stop.applied ≤ length entries
-  pub cause : HasStopCause upto head entries fault (length first / 512) stop.applied stop.cause
+  pub cause : ReplayHasStopCause upto head entries fault (length first / 512) stop.applied stop.cause
 
 -- The command's fault if a replay stopped.
 abbrev pub replay_stopped : ReplayFault → RunError
@@ -101,7 +101,7 @@ pub data FailsOnImages (log first : List ℕ) (upto : Upto) : RunError → Type 
 -- - `images`: the replay of the files' images fails.
 pub data FailsReplay (log_file first_file : Option (List ℕ)) (upto : Upto) : RunError → Type 0 where
   file : (fault : RunError) → IsFileError fault
-      → (HoldsImage log_file → HoldsImage first_file → fault ≡ memory_error)
+      → (FileHoldsImage log_file → FileHoldsImage first_file → fault ≡ memory_error)
       → FailsReplay log_file first_file upto fault
   images : (log first : List ℕ) (stop : RunError) → AreImages log_file first_file log first
       → FailsOnImages log first upto stop
@@ -113,7 +113,7 @@ pub record IsReplayedFrom (log_file first_file : Option (List ℕ)) (upto : Upto
   pub log : List ℕ
   pub first : List ℕ
   pub files : AreImages log_file first_file log first
-  pub replayed : IsReplayed log first upto count image
+  pub replayed : ImageIsReplayed log first upto count image
 
 -- What `replay` makes: the resulting image, and the line with the count. If it fails, it prints
 -- nothing.
@@ -126,9 +126,9 @@ replaying log_file first_file upto = record {
 
 -- What `replay` does: it replays the log in the file `log` on the image in the file `first`. The
 -- file `name` gets the resulting image.
-abbrev pub Replays : List ℕ → List ℕ → List ℕ → Upto → Does ℕ
-Replays log first name upto =
-    Makes (λ files. replaying (files log) (files first) upto) log name
+abbrev pub ReplaysLog : List ℕ → List ℕ → List ℕ → Upto → Effect ℕ
+ReplaysLog log first name upto =
+    MakesImage (λ files. replaying (files log) (files first) upto) log name
 
 -- The word of `replay` that names the end of the replay.
 

@@ -19,8 +19,8 @@ abbrev pub seen : (List ℕ → Option (List ℕ)) → Option (List Write) → O
 seen files writes out err = record { files = files; writes = writes; out = out; err = err }
 
 -- What a command does: a relation between what is seen before, what is seen after, and the result.
-abbrev pub Does : Type 0 → Type 1
-Does T = Seen → Seen → Result T RunError → Type 0
+abbrev pub Effect : Type 0 → Type 1
+Effect T = Seen → Seen → Result T RunError → Type 0
 
 -- What a command prints: a relation between the output before, the output after, and the result.
 abbrev pub Printing : Type 0 → Type 1

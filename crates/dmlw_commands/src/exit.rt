@@ -1,6 +1,6 @@
 //! The exit status of a command.
 ghost use Rattle.std.specs.Prelude.{◌≡◌};
-ghost use Rattle.dmlw_commands.specs.Ends.{exit_at, exit_of, status_of};
+ghost use Rattle.dmlw_commands.specs.Ends.{exit_at, exit_of, exit_status_of};
 
 use bio::End;
 use refusals::RunError;
@@ -21,9 +21,8 @@ pub enum Exit {
 }
 
 impl Exit {
-    /// Returns the exit status, from 0 to 3.
     pub fn status(self) -> u8
-        ensures { result ≡ status_of self }
+        ensures { result ≡ exit_status_of self }
     {
         match self {
             Exit::Done => 0,

@@ -4,7 +4,7 @@ ghost use Rattle.std.specs.Prelude.{◌≡◌, ◌⊎◌, IfErr, IfOk, List, Opt
 ghost use Rattle.log_format.specs.declared.entry.Entry.{Entry};
 ghost use Rattle.log_reader.specs.declared.fault.LogFault.{LogFault};
 ghost use Rattle.log_reader.specs.Reader.{GivesWithin, Keeps, reader_of};
-ghost use Rattle.log_reader.specs.DiskLog.{Reads};
+ghost use Rattle.log_reader.specs.DiskLog.{ReadsDiskLog};
 ghost use Rattle.refusals.specs.Errors.{memory_error};
 ghost use Rattle.dmlw_files.specs.Files.{IsImage};
 ghost use Rattle.dmlw_commands.specs.Lists.{GivesNext, Opens, RefusesImage};
@@ -16,7 +16,6 @@ use refusals::{Refusal, RunError};
 use sector_disk::{Image, SectorDisk};
 use std::alloc::Global;
 
-// Opens a reader of the log in an image.
 pub(crate) fn open_image(alloc: Global, image: Image) -> Result<LogReader<SectorDisk>, RunError>
     requires { IsImage image }
     ensures opened { IfOk result (λ reader. Opens image (reader_of reader)) }
@@ -38,7 +37,7 @@ pub(crate) fn next_of_image(
 ) -> Result<Option<(Placed, Entry)>, RunError>
     requires { (reader_of reader.old).failed ≡ false }
     ensures gives { (es : List Entry) (fault : Option LogFault) →
-        Reads (reader_of reader.old).device.size (reader_of reader.old).device.content
+        ReadsDiskLog (reader_of reader.old).device.size (reader_of reader.old).device.content
         (reader_of reader.old).head es fault →
         GivesNext es fault (reader_of reader.old) (reader_of reader.new) result }
     ensures within { GivesWithin (reader_of reader.old).device.size

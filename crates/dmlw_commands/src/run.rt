@@ -3,11 +3,11 @@ ghost use Rattle.std.specs.Prelude.{◌≡◌, Err, IfErr, IfOk, List, OnOk, Opt
 ghost use Rattle.std.specs.Io.KnownBytes.{Appends};
 ghost use Rattle.refusals.specs.declared.refusal.Refusal.TheVariants as refusals;
 ghost use Rattle.refusals.specs.Errors.{IsFileError, refused_by};
-ghost use Rattle.dmlw_commands.specs.Ends.{Ends, ReportsLine, err_stream, exit_after, fault_line};
+ghost use Rattle.dmlw_commands.specs.Ends.{EndsAsCommand, ReportsLine, err_stream, exit_after, fault_line};
 ghost use Rattle.dmlw_commands.specs.Seen.{seen};
 ghost use Rattle.dmlw_commands.specs.declared.exit.Exit.{Exit};
 ghost use Rattle.dmlw_files.specs.Files.{IsTooLong, MatchesContents, image_of};
-ghost use Rattle.dmlw_commands.specs.Records.{FailsRecording, PrintsLog, Records, of_seats};
+ghost use Rattle.dmlw_commands.specs.Records.{FailsRecording, PrintsLog, RecordsScript, of_seats};
 ghost use Rattle.dmlw_commands.specs.Records.{seat_line, seat_lines};
 
 use crate::explain::explain_running;
@@ -31,7 +31,7 @@ pub fn run<F: Files, O: Write, E: Write, H: Threads + Wait + Sync>(
     log: &str,
     session: &mut Session<F, O, E>,
 ) -> Ended
-    ensures ends { Ends (Records of_seats script.now log.now) exit_after session.old.explains
+    ensures ends { EndsAsCommand (RecordsScript of_seats script.now log.now) exit_after session.old.explains
         (seen (F.contents session.old.files) (F.writes session.old.files)
         (O.contents session.old.out) (E.contents session.old.err))
         (seen (F.contents session.new.files) (F.writes session.new.files)
@@ -73,7 +73,7 @@ fn run_named<F: Files, O: Write, H: Threads + Wait + Sync>(
     files: &mut F,
     out: &mut O,
 ) -> Result<Status, RunError>
-    ensures did { (err : Option (List ℕ)) → Records of_seats script.now log.now
+    ensures did { (err : Option (List ℕ)) → RecordsScript of_seats script.now log.now
         (seen (F.contents files.old) (F.writes files.old) (O.contents out.old) err)
         (seen (F.contents files.new) (F.writes files.new) (O.contents out.new) err) result }
     ensures same { script.now ≡ log.now → result ≡ Err (refused_by refusals.File) }

@@ -19,13 +19,13 @@ pub record Write : Type 0 where
   pub bytes : List ℕ
 
 -- The writes and one more write after them, if the writes are known.
-abbrev pub one_more : Option (List Write) → List ℕ → List ℕ → Option (List Write)
-one_more writes name bytes =
+abbrev pub with_write : Option (List Write) → List ℕ → List ℕ → Option (List Write)
+with_write writes name bytes =
     option_map (λ before. before ++ record { name = name; bytes = bytes } ∷ []) writes
 
 -- `new` are the writes `old` and one more, of the file `name`, if the writes are known.
-abbrev pub AsksFor : List ℕ → Option (List Write) → Option (List Write) → Type 0
-AsksFor name old new = (bytes : List ℕ) × (new ≡ one_more old name bytes)
+abbrev pub AddsWrite : List ℕ → Option (List Write) → Option (List Write) → Type 0
+AddsWrite name old new = (bytes : List ℕ) × (new ≡ with_write old name bytes)
 
 -- If it is known what a file holds, the file holds `bytes`.
 abbrev pub MatchesContents : Option (List ℕ) → List ℕ → Type 0
@@ -33,9 +33,9 @@ MatchesContents None bytes = Unit {0}
 MatchesContents (Some known) bytes = bytes ≡ known
 
 -- It is known what a file holds, and that is at most `limit` bytes.
-abbrev pub IsWithin : ℕ → Option (List ℕ) → Type 0
-IsWithin limit None = ⊥
-IsWithin limit (Some known) = length known ≤ limit
+abbrev pub FileIsWithin : ℕ → Option (List ℕ) → Type 0
+FileIsWithin limit None = ⊥
+FileIsWithin limit (Some known) = length known ≤ limit
 
 -- Each file holds the same as before, as far as that is known.
 abbrev pub KeepsFiles : (List ℕ → Option (List ℕ)) → (List ℕ → Option (List ℕ)) → Type 0
@@ -72,17 +72,17 @@ abbrev pub image_of : SectorDisk → List ℕ
 image_of disk = gather (shown_of disk).content 0 (shown_of disk).size
 
 -- It is known what a file holds, and that is an image.
-abbrev pub HoldsImage : Option (List ℕ) → Type 0
-HoldsImage None = ⊥
-HoldsImage (Some known) = IsImage known
+abbrev pub FileHoldsImage : Option (List ℕ) → Type 0
+FileHoldsImage None = ⊥
+FileHoldsImage (Some known) = IsImage known
 
 -- If a file is known to hold an image, it has at most 2^29 bytes.
-pub image_within : (file : Option (List ℕ)) → HoldsImage file → IsWithin 536870912 file
+pub image_within : (file : Option (List ℕ)) → FileHoldsImage file → FileIsWithin 536870912 file
 image_within None is = is
 image_within (Some known) is = is.most
 
 -- If a file is known to hold an image, the bytes that are read from the file are an image.
-pub image_read : (file : Option (List ℕ)) (bytes : List ℕ) → HoldsImage file
+pub image_read : (file : Option (List ℕ)) (bytes : List ℕ) → FileHoldsImage file
     → MatchesContents file bytes → IsImage bytes
 image_read None bytes is same = absurd is
 image_read (Some known) bytes is same = subst IsImage (sym same) is

@@ -2,8 +2,8 @@
 ghost use Rattle.std.specs.Prelude.{◌≡◌, ◌≤◌, Bool, IfErr, IfOk, List, OnErr, OnOk, Option, false};
 ghost use Rattle.std.specs.Prelude.{is_some, length, true, ℕ};
 ghost use Rattle.refusals.specs.Errors.{refused_by};
-ghost use Rattle.dmlw_files.specs.Files.{IsWithin, KeepsFiles, MatchesContents, Write, file_error};
-ghost use Rattle.dmlw_files.specs.Files.{file_refusal, image_of, one_more};
+ghost use Rattle.dmlw_files.specs.Files.{FileIsWithin, KeepsFiles, MatchesContents, Write, file_error};
+ghost use Rattle.dmlw_files.specs.Files.{file_refusal, image_of, with_write};
 
 use refusals::{Refusal, RunError};
 use sector_disk::{Image, SectorDisk};
@@ -81,7 +81,7 @@ pub trait Files {
         ensures contents { IfOk result
             (λ image. MatchesContents (contents self.old name.now) image) }
         ensures within { IfOk result (λ image. length image ≤ limit) }
-        ensures readable { IsWithin limit (contents self.old name.now)
+        ensures readable { FileIsWithin limit (contents self.old name.now)
             → IfErr result (λ error. error ≡ FileError.Memory) }
         ensures kept { KeepsFiles (contents self.old) (contents self.new) }
         ensures writes { writes self.new ≡ writes self.old }
@@ -94,7 +94,7 @@ pub trait Files {
     fn write(&mut self, alloc: Global, name: &str, disk: SectorDisk) -> Result<(), FileError>
         ensures holds { OnOk result (MatchesContents (contents self.new name.now) (image_of disk)) }
         ensures kept { OnErr result (KeepsFiles (contents self.old) (contents self.new)) }
-        ensures writes { writes self.new ≡ one_more (writes self.old) name.now (image_of disk) }
+        ensures writes { writes self.new ≡ with_write (writes self.old) name.now (image_of disk) }
         ensures cleared { OnOk result (has_failure self.new ≡ false) };
 
     /// Returns why the last read or write failed, if it failed and the reason is known.

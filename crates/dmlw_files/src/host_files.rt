@@ -37,9 +37,9 @@ const MAX_FILE_BYTES: u64 = 9_223_372_036_854_775_807;
 /// `/dev/stdout`, is written directly: the bytes are appended.
 ///
 /// A pipe, a socket or a character device can be read only once. So this value remembers the bytes,
-/// if there are at most 4,194,304. A later read of the name returns a copy of them. If the file is
-/// known to have more bytes than a later read's limit, that read fails with `TooLong(0)`.
-/// Otherwise, if the bytes weren't remembered, it fails with `NotSeekable`.
+/// if there are at most 4,194,304. A later read of the name returns a copy of them. It
+/// fails with `TooLong(0)` if the file is longer than its limit, else with `NotSeekable` if the
+/// bytes weren't kept.
 #[derive(Drop)]
 pub struct HostFiles<'a, R: std::rt::Files> {
     runtime: &'a R,
@@ -51,8 +51,7 @@ pub struct HostFiles<'a, R: std::rt::Files> {
 #[derive(Drop)]
 struct Spent {
     name: String,
-    // The file has at least this many bytes: the bytes that were read. If the file had more than
-    // the read's limit, this is the limit plus one. If the read failed, it is 0.
+    // How many bytes were read: the limit plus one if the file is longer, 0 if the read failed.
     length: u64,
     // All bytes of the file; None if they were too many, or memory ran out.
     bytes: Option<Vec<u8>>,

@@ -1,7 +1,7 @@
 //! Reads an image from a file: whole sectors, at most 512 MiB.
 ghost use Rattle.std.specs.Prelude.{◌≡◌, IfErr, IfOk};
 ghost use Rattle.refusals.specs.Errors.{IsFileError, memory_error};
-ghost use Rattle.dmlw_files.specs.Files.{HoldsImage, IsImage, KeepsFiles, MatchesContents};
+ghost use Rattle.dmlw_files.specs.Files.{FileHoldsImage, IsImage, KeepsFiles, MatchesContents};
 
 use crate::files::Files;
 use bio::SECTOR_BYTES;
@@ -21,7 +21,7 @@ pub fn read_image<F: Files>(alloc: Global, name: &str, files: &mut F) -> Result<
         (λ image. MatchesContents (F.contents files.old name.now) image) }
     ensures whole { IfOk result (λ image. IsImage image) }
     ensures fault { IfErr result IsFileError }
-    ensures readable { HoldsImage (F.contents files.old name.now)
+    ensures readable { FileHoldsImage (F.contents files.old name.now)
         → IfErr result (λ fault. fault ≡ memory_error) }
     ensures kept { KeepsFiles (F.contents files.old) (F.contents files.new) }
     ensures unwritten { F.writes files.new ≡ F.writes files.old }

@@ -1,7 +1,7 @@
 //! Reads a script's text from a file: at most 4 MiB.
 ghost use Rattle.std.specs.Prelude.{◌≡◌, ◌≤◌, IfErr, IfOk, length};
 ghost use Rattle.dmlw_files.specs.declared.files.FileError.{FileError};
-ghost use Rattle.dmlw_files.specs.Files.{IsWithin, KeepsFiles, MatchesContents};
+ghost use Rattle.dmlw_files.specs.Files.{FileIsWithin, KeepsFiles, MatchesContents};
 
 use crate::files::{FileError, Files};
 use std::alloc::Global;
@@ -15,7 +15,7 @@ pub fn read_text<F: Files>(alloc: Global, script: &str, files: &mut F) -> Result
     ensures contents { IfOk result
         (λ text. MatchesContents (F.contents files.old script.now) text.items) }
     ensures within { IfOk result (λ text. length text.items ≤ 4194304) }
-    ensures readable { IsWithin 4194304 (F.contents files.old script.now)
+    ensures readable { FileIsWithin 4194304 (F.contents files.old script.now)
         → IfErr result (λ error. error ≡ FileError.Memory) }
     ensures kept { KeepsFiles (F.contents files.old) (F.contents files.new) }
     ensures unwritten { F.writes files.new ≡ F.writes files.old }

@@ -11,7 +11,7 @@ use dmlw::{Exit, HostFiles, Output, Session, execute, refuse};
 use dmlw_commands::record::print_end;
 use dmlw_commands::report;
 use dmlw_serve::{
-    Asked, Counts, ServeNames, Served, Surroundings, print_session, read_words, serve,
+    Asked, Counts, ServeNames, ServedSession, Surroundings, print_session, read_words, serve,
 };
 use refusals::{Refusal, RunError};
 use std::io::{BufWriter, Write};
@@ -113,7 +113,7 @@ fn serve_client<R: Files + Print + Input + Clock + AllocGlobal, E: Write>(
     names: ServeNames<'_>,
     marks: Option<&str>,
     err: &mut E,
-) -> Result<(Served, Counts), RunError> {
+) -> Result<(ServedSession, Counts), RunError> {
     let mut files = HostFiles::new(rt, rt.alloc());
     let mut host = Surroundings::new(rt, rt.alloc(), marks, err)?;
     let served = serve(

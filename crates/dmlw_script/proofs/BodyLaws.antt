@@ -110,7 +110,7 @@ new_name front rest name distinct =
     ∙ apart)
 
 -- The body may be in a script; `bytes` and `sectors` are as in `range_test`.
-pub record IsSound (bytes sectors : ℕ) (b : Body) : Type 0 where
+pub record IsSoundBody (bytes sectors : ℕ) (b : Body) : Type 0 where
   pub ids : AllByRecursion IsName b.names
   pub distinct : IsDistinct same_name b.names
   pub numbered : length b.names ≡ submissions b.body
@@ -171,10 +171,10 @@ unlisted name names e = grind (arith, true, cond-true, listed, false, cases_Bool
 
 submit_grows : (bytes sectors : ℕ) (b : Body) (name : ScriptId) (submission : Submission)
     → request_of name b.names ≡ None → IsName name
-    → CanFollow bytes sectors b.body (commands.Submit submission) → IsSound bytes sectors b
+    → CanFollow bytes sectors b.body (commands.Submit submission) → IsSoundBody bytes sectors b
     → (c : Body)
     → record { names = b.names ++ name ∷ []; body = b.body ++ commands.Submit submission ∷ [] } ≡ c
-    → IsSound bytes sectors c × Grows b c (body_lines.Submit name submission)
+    → IsSoundBody bytes sectors c × Grows b c (body_lines.Submit name submission)
 submit_grows bytes sectors b name submission new is may sound c same =
     let more : length (b.names ++ name ∷ []) ≡ length b.names + 1 =
     length-append b.names (name ∷ []) in
@@ -198,8 +198,8 @@ submit_grows bytes sectors b name submission new is may sound c same =
 
 other_grows : (bytes sectors : ℕ) (b : Body) (command : Command) (s : BodyLine)
     → CanFollow bytes sectors b.body command → submits command ≡ 0
-    → line_at b.names (length b.names) command ≡ s → IsSound bytes sectors b → (c : Body)
-    → with_command b command ≡ c → IsSound bytes sectors c × Grows b c s
+    → line_at b.names (length b.names) command ≡ s → IsSoundBody bytes sectors b → (c : Body)
+    → with_command b command ≡ c → IsSoundBody bytes sectors c × Grows b c s
 other_grows bytes sectors b command s may none says sound c same =
     rw (← same) (
       record {
@@ -224,21 +224,21 @@ pub told_ok : (r : Result (Unit {0}) BadBio) (x : Unit {0}) → as_refusal r ≡
 told_ok (Ok u) x e = refl
 told_ok (Err bad) x e = absurd (cc)
 
-step_ok : (bytes sectors moment : ℕ) (step : Step) (x : Unit {0})
-    → step_test bytes sectors moment step ≡ Ok x
-    → (step_answer bytes sectors step ≡ Ok tt) × IsInTime moment step
-step_ok bytes sectors moment (steps.At later) x e = grind (arith, ltb-false, barred_ok)
-step_ok bytes sectors moment step x e = (told_ok (step_answer bytes sectors step) x e, tt)
+step_ok : (bytes sectors time : ℕ) (step : Step) (x : Unit {0})
+    → step_test bytes sectors time step ≡ Ok x
+    → (step_answer bytes sectors step ≡ Ok tt) × IsInTime time step
+step_ok bytes sectors time (steps.At later) x e = grind (arith, ltb-false, barred_ok)
+step_ok bytes sectors time step x e = (told_ok (step_answer bytes sectors step) x e, tt)
 
-step_again : (bytes sectors moment : ℕ) (step : Step) → step_answer bytes sectors step ≡ Ok tt
-    → IsInTime moment step → step_test bytes sectors moment step ≡ Ok tt
-step_again bytes sectors moment (steps.At later) fine in_time =
+step_again : (bytes sectors time : ℕ) (step : Step) → step_answer bytes sectors step ≡ Ok tt
+    → IsInTime time step → step_test bytes sectors time step ≡ Ok tt
+step_again bytes sectors time (steps.At later) fine in_time =
     cond-false _ _ _ (le-ltb _ _ in_time)
-step_again bytes sectors moment step fine in_time = ap as_refusal fine
+step_again bytes sectors time step fine in_time = ap as_refusal fine
 
 end_grows : (bytes sectors : ℕ) (b c : Body) (name : ScriptId) (o : Option ℕ)
-    → request_of name b.names ≡ o → ended_next o b ≡ Ok c → IsSound bytes sectors b
-    → IsSound bytes sectors c × Grows b c (body_lines.Complete name)
+    → request_of name b.names ≡ o → ended_next o b ≡ Ok c → IsSoundBody bytes sectors b
+    → IsSoundBody bytes sectors c × Grows b c (body_lines.Complete name)
 end_grows bytes sectors b c name None is e sound = absurd (cc)
 end_grows bytes sectors b c name (Some request) is e sound =
     let p = name_of_request name b.names request (script_id []) is in
@@ -250,8 +250,8 @@ end_grows bytes sectors b c name (Some request) is e sound =
     (rw p.1) sound c (let last = q.1 in cc)
 
 pub step_grows : (bytes sectors : ℕ) (b c : Body) (s : BodyLine)
-    → body_step bytes sectors b s ≡ Ok c → IsFine s → IsSound bytes sectors b
-    → IsSound bytes sectors c × Grows b c s
+    → body_step bytes sectors b s ≡ Ok c → IsFine s → IsSoundBody bytes sectors b
+    → IsSoundBody bytes sectors c × Grows b c s
 step_grows bytes sectors b c (body_lines.Submit name submission) e fine sound =
     let p = bind_ok (with_name b name) _ c e in
     let q = bind_ok (as_refusal (submission_answer bytes sectors submission)) _ c p.2 in
@@ -314,7 +314,7 @@ lines_kept bytes sectors names more n done (c ∷ body) counted well_formed numb
     (omega (arith, count, counted, submissions-push done c)) well_formed.1
     (omega (arith, numbered, sum, count)))
 
-pub lines_grow : (bytes sectors : ℕ) (b c : Body) (s : BodyLine) → IsSound bytes sectors b
+pub lines_grow : (bytes sectors : ℕ) (b c : Body) (s : BodyLine) → IsSoundBody bytes sectors b
     → Grows b c s → lines_of_draft c ≡ lines_of_draft b ++ parsed_lines.Body s ∷ []
 lines_grow bytes sectors b c s sound g =
     let kept : lines_of_body c.names 0 b.body ≡ lines_of_draft b =

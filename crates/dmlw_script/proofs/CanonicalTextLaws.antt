@@ -10,12 +10,12 @@ use Rattle.bio.specs.declared.request.SectorSize.{SectorSize}
 use Rattle.bio.specs.declared.request.SectorSize.TheVariants as sizes
 use Rattle.bio.specs.Requests.{bytes_of}
 use Rattle.layer_table.specs.declared.layer_spec.LayerSpec.{LayerSpec}
-use Rattle.layer_table.specs.TableLines.{is_printable, line_text, printed_again, printed_plain}
+use Rattle.layer_table.specs.TableLines.{is_printable, layer_text, printed_again, printed_plain}
 use Rattle.layer_table.specs.TableLines.{IsLayerSpec}
 use Rattle.dmlw_script.proofs.BodyLaws.{count_after_command-is, submissions-cons, submissions-push}
 use Rattle.dmlw_script.proofs.HeadLaws.{disk_small, layer_specs, top_small}
-use Rattle.dmlw_script.proofs.Spelling.{text_good, text_has, Fits, FitsLine, FitsWord, IsLineText}
-use Rattle.dmlw_script.proofs.ReaderLaws.{one_script, all_append, all_map, tells_said, Tells}
+use Rattle.dmlw_script.proofs.Spelling.{text_good, text_has, Fits, FitsFields, FitsWord, IsLineText}
+use Rattle.dmlw_script.proofs.ReaderLaws.{one_script, all_append, all_map, tells_said, LinesMean}
 use Rattle.dmlw_script.proofs.WordLaws.{all_weaker, cut_alone, cut_word, first_line, lacks}
 use Rattle.dmlw_script.proofs.LineParserLaws.{said_kept, step_fits, submission_fits}
 use Rattle.dmlw_script.proofs.RunLaws.{run_said_kept, runner}
@@ -29,10 +29,10 @@ use Rattle.dmlw_script.specs.declared.line.HeadLine.TheVariants as head_lines
 use Rattle.dmlw_script.specs.declared.run_line.RunLine.{RunLine}
 use Rattle.dmlw_script.specs.declared.run_line.RunLine.TheVariants as run_lines
 use Rattle.dmlw_script.specs.declared.script_id.ScriptId.{ScriptId}
-use Rattle.dmlw_script.specs.declared.run_line.Call.{Call}
-use Rattle.dmlw_script.specs.declared.run_line.Call.TheVariants as calls
+use Rattle.dmlw_script.specs.declared.run_line.RunCall.{RunCall}
+use Rattle.dmlw_script.specs.declared.run_line.RunCall.TheVariants as calls
 use Rattle.dmlw_script.specs.declared.run_line.SeatCall.{SeatCall}
-use Rattle.dmlw_script.specs.Fields.{all_of, call_fields, run_fields, IsLineWith, text_of, Fields}
+use Rattle.dmlw_script.specs.Fields.{all_of, call_fields, run_fields, IsLineWith, fields_text, Fields}
 use Rattle.dmlw_script.specs.Fields.{Given, fields_of, head_fields, layer_word, number}
 use Rattle.dmlw_script.specs.Grammar.{IsRunText, IsTextOf, canonical_text, run_text}
 use Rattle.dmlw_script.specs.LineMeaning.{LineMeaning}
@@ -55,10 +55,10 @@ line_plain b good = grind (arith, nat_tests)
 
 -- The canonical line of `s` has the fields of `s`, and each of its bytes may be in a line.
 pub record IsWrittenAs {A : Type 0} (fields : A → Fields) (s : A) : Type 0 where
-  pub says : IsLineWith (text_of (fields s)) (fields s)
-  pub good : IsLineText (text_of (fields s))
+  pub says : IsLineWith (fields_text (fields s)) (fields s)
+  pub good : IsLineText (fields_text (fields s))
 
-pub written_as : {A : Type 0} (fields : A → Fields) (s : A) → FitsLine (fields s)
+pub written_as : {A : Type 0} (fields : A → Fields) (s : A) → FitsFields (fields s)
     → IsWrittenAs fields s
 written_as fields s fits =
     record { says = text_has (fields s) fits; good = text_good (fields s) fits }
@@ -66,14 +66,14 @@ written_as fields s fits =
 abbrev pub IsWritten : LineMeaning → Type 0
 IsWritten s = IsWrittenAs fields_of s
 
-written : (s : LineMeaning) → FitsLine (fields_of s) → IsWritten s
+written : (s : LineMeaning) → FitsFields (fields_of s) → IsWritten s
 written s fits = written_as fields_of s fits
 
-pub data_fits : (n : ℕ) → n < 2 ^ 64 → FitsLine (head_fields (head_lines.Data n))
+pub data_fits : (n : ℕ) → n < 2 ^ 64 → FitsFields (head_fields (head_lines.Data n))
 data_fits n low = record { first = (refl, refl); others = (low, tt) }
 
 pub log_fits : (n : ℕ) (size : SectorSize) → n < 2 ^ 64
-    → FitsLine (head_fields (head_lines.Log n size))
+    → FitsFields (head_fields (head_lines.Log n size))
 log_fits n sizes.B512 low = record { first = (refl, refl); others = (low, tt) }
 log_fits n sizes.B4096 low = record { first = (refl, refl); others = (low, ((refl, refl), tt)) }
 
@@ -96,11 +96,11 @@ line_printable : (b : ℕ) → is_printable b ≡ true → is_line_byte b ≡ tr
 line_printable b good = grind (arith, nat_tests)
 
 pub layer_fits : (over : DiskName) (spec : LayerSpec) → IsLayerSpec spec
-    → FitsLine (head_fields (head_lines.Layer over (Ok spec)))
+    → FitsFields (head_fields (head_lines.Layer over (Ok spec)))
 layer_fits over spec is = record {
   first = fits_word over;
   others = record {
-    good = all_weaker _ _ line_printable (line_text spec) (printed_plain spec is);
+    good = all_weaker _ _ line_printable (layer_text spec) (printed_plain spec is);
     asks = printed_again spec is;
   };
 }
@@ -191,8 +191,8 @@ fed_line (b ∷ line) rest lack =
 pub written_text : {A : Type 0} (fields : A → Fields)
     (kept : (line : List ℕ) (s : A) → IsLineWith line (fields s) → is_skipped line ≡ false)
     (ss : List A) → AllByRecursion (IsWrittenAs fields) ss
-    → Tells (λ line s. IsLineWith line (fields s))
-    (lines_of (flat_map (λ s. text_of (fields s) ++ 10 ∷ []) ss)) ss
+    → LinesMean (λ line s. IsLineWith line (fields s))
+    (lines_of (flat_map (λ s. fields_text (fields s) ++ 10 ∷ []) ss)) ss
 written_text fields kept [] lines = record { plain = tt; says = tt }
 written_text fields kept (s ∷ ss) lines =
     grind (
@@ -230,10 +230,10 @@ ended_but_last (line ∷ lines) last whole unbroken some =
 abbrev IsRunWritten : RunLine → Type 0
 IsRunWritten said = IsWrittenAs run_fields said
 
-run_written_as : (said : RunLine) → FitsLine (run_fields said) → IsRunWritten said
+run_written_as : (said : RunLine) → FitsFields (run_fields said) → IsRunWritten said
 run_written_as said fits = written_as run_fields said fits
 
-call_fits : (bytes sectors : ℕ) (call : Call) → sectors ≤ 1048576
+call_fits : (bytes sectors : ℕ) (call : RunCall) → sectors ≤ 1048576
     → call_answer bytes sectors call ≡ Ok tt → CallFits call → Fits (all_of (call_fields call))
 call_fits bytes sectors (calls.Submit submission) small passes fits = grind (arith, submission_fits)
 call_fits bytes sectors (calls.Mark text) small passes good = ((refl, refl), good)

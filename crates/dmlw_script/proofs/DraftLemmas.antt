@@ -13,12 +13,12 @@ use Rattle.dmlw_script.specs.declared.command.Command.{Command}
 use Rattle.dmlw_script.specs.declared.command.Command.TheVariants as commands
 use Rattle.dmlw_script.specs.inside.Drafts.{with_name, Body, IsFlags}
 use Rattle.dmlw_script.specs.Words.{same_name}
-use Rattle.dmlw_script.specs.Plans.{is_end_of, is_ended, time_at, time_from, request_of}
+use Rattle.dmlw_script.specs.Plans.{ends_request, is_ended, time_at, time_from, request_of}
 use Rattle.dmlw_script.specs.declared.script_id.ScriptId.{ScriptId}
 use Rattle.refusals.specs.declared.refusal.Refusal.TheVariants.{BadId}
 
 pub is_ended-push : (request : ℕ) (body : List Command) (command : Command)
-    → is_ended request (body ++ command ∷ []) ≡ (is_ended request body || is_end_of request command)
+    → is_ended request (body ++ command ∷ []) ≡ (is_ended request body || ends_request request command)
 is_ended-push request body command = grind (arith, list_any-append, or-false)
 
 -- A new flag that is false changes nothing, because a missing flag counts as false.
@@ -34,7 +34,7 @@ pub flags_submit : (n : ℕ) (flags : List Bool) (body : List Command) → IsFla
 flags_submit n flags body old = grind (arith, length-append, push_default)
 
 pub flags_say : (n : ℕ) (flags : List Bool) (body : List Command) (command : Command)
-    → ((request : ℕ) → is_end_of request command ≡ false) → IsFlags n flags body
+    → ((request : ℕ) → ends_request request command ≡ false) → IsFlags n flags body
     → IsFlags n flags (body ++ command ∷ [])
 flags_say n flags body command quiet old = record {
   in_step = old.in_step;
@@ -86,7 +86,7 @@ with_old_name b name old =
     cond-true _ _ _ (listed (same_name name) b.names ∙ old) in
     rw some
 
-pub moment_push : (moment : ℕ) (body : List Command) (command : Command)
-    → time_from moment (body ++ command ∷ []) ≡ time_at (time_from moment body) command
-moment_push moment [] command = refl
-moment_push moment (first ∷ body) command = moment_push (time_at moment first) body command
+pub time_push : (time : ℕ) (body : List Command) (command : Command)
+    → time_from time (body ++ command ∷ []) ≡ time_at (time_from time body) command
+time_push time [] command = refl
+time_push time (first ∷ body) command = time_push (time_at time first) body command

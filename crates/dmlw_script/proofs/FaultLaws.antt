@@ -12,8 +12,8 @@ use Rattle.refusals.specs.declared.refusal.Refusal.{Refusal}
 use Rattle.refusals.specs.declared.refusal.Refusal.TheVariants.{BadLine}
 use Rattle.dmlw_script.specs.Words.{is_ascii_line, is_skipped, unskipped}
 use Rattle.dmlw_script.specs.FirstFault.{is_memory}
-use Rattle.dmlw_script.specs.inside.Readers.{read_by, step_if, IsFault, Reads, at_line}
-use Rattle.dmlw_script.proofs.ReaderLaws.{reads, spelled_lines, takes, Reached, Reader, reached}
+use Rattle.dmlw_script.specs.inside.Readers.{read_by, step_if, IsFault, ReadsLine, at_line}
+use Rattle.dmlw_script.proofs.ReaderLaws.{reads, spelled_lines, takes, Reached, ReaderLaw, reached}
 use Rattle.dmlw_script.proofs.ReaderLaws.{skipped_line, strange_line, reached_spells, kept_line}
 use Rattle.dmlw_script.proofs.ReaderLaws.{lines_spell, one_said, one_script, one_told, memory_is}
 use Rattle.dmlw_script.proofs.ReaderLaws.{reads_on, stopped, StopsAt}
@@ -54,14 +54,14 @@ same_parts (first ∷ a) x (line ∷ b) y same lens =
 same_parts a x b y same lens = absurd (omega arith)
 
 -- From the state `s`, reading the lines `more` ends with the script `plan`.
-pub record Completes {S W A : Type 0} (r : Reader S W A) (s : S) (number : ℕ) : Type 0 where
+pub record CompletesScript {S W A : Type 0} (r : ReaderLaw S W A) (s : S) (number : ℕ) : Type 0 where
   pub more : List (List ℕ)
   pub plan : A
   pub read : read_by (takes r) r.finish s number more ≡ Ok plan
 
 -- The facts about a reader from which the laws of its first faults follow.
 -- A value of type `P` is how much of a script was read, as far as the next line depends on it.
-pub record Faults {S W A : Type 0} (r : Reader S W A) (P : Type 0) : Type 1 where
+pub record ReaderFaults {S W A : Type 0} (r : ReaderLaw S W A) (P : Type 0) : Type 1 where
   pub after : List W → P
   pub Stands : P → W → Type 0
   pub prefix_of : S → P
@@ -71,7 +71,7 @@ pub record Faults {S W A : Type 0} (r : Reader S W A) (P : Type 0) : Type 1 wher
       → ((Stands (prefix_of s) w → ⊥) × (BadLine ≡ refusal))
       ⊎ (Stands (prefix_of s) w × (plan : A) × (r.finish s ≡ Ok plan)
       × (line_refusal plan w ≡ Some refusal))
-  pub completes : (s : S) (number : ℕ) → r.IsBegun s → Completes r s number
+  pub completes : (s : S) (number : ℕ) → r.IsBegun s → CompletesScript r s number
   pub unfinished_is : (s : S) (refusal : Refusal) → r.finish s ≡ Err refusal → refusal ≡ BadLine
   pub Begins : List (List ℕ) → Type 0
   pub begins : (lines more : List (List ℕ)) (plan : A) → r.Spells (lines ++ more) plan
@@ -116,7 +116,7 @@ pub record Faults {S W A : Type 0} (r : Reader S W A) (P : Type 0) : Type 1 wher
       → (before : List (List ℕ)) × (more : List (List ℕ)) × (lines ≡ before ++ more)
       × (line ≡ length before + 1) × Begins before × FaultAfter before more refusal
 
-module _ {S W A P : Type 0} (r : Reader S W A) (f : Faults r P) where
+module _ {S W A P : Type 0} (r : ReaderLaw S W A) (f : ReaderFaults r P) where
   read_behind : (before more : List (List ℕ)) (s : S) → Reached r before s
       → reads r 1 (before ++ more) ≡ read_by (takes r) r.finish s (1 + length before) more
   read_behind before more s here = reads_on (takes r) r.finish r.start s 1 before more here.gone
@@ -219,7 +219,7 @@ module _ {S W A P : Type 0} (r : Reader S W A) (f : Faults r P) where
       → ((fault : Fault) (line : ℕ) → f.FirstFault lines line fault.refusal
       → IsAt fault (Some line))
       → ((fault : Fault) → fault ≡ is_memory → IsAt fault None)
-      → Reads answer (reads r 1 lines) → IfErr answer (λ fault. IsAt fault fault.line)
+      → ReadsLine answer (reads r 1 lines) → IfErr answer (λ fault. IsAt fault fault.line)
   fault_found IsAt lines (Ok plan) here memory read = tt
   fault_found IsAt lines (Err fault) here memory read = by_line fault.line refl read
     where

@@ -14,7 +14,7 @@ use Rattle.bio.specs.declared.request.SectorSize.{SectorSize}
 use Rattle.bio.specs.Requests.{bytes_of}
 use Rattle.layer_table.specs.declared.layer_spec.LayerSpec.{LayerSpec}
 use Rattle.layer_table.specs.declared.table_error.TableError.{TableError}
-use Rattle.layer_table.specs.Layers.{top_sectors, IsAllowed}
+use Rattle.layer_table.specs.Layers.{top_sectors, LayersAreAllowed}
 use Rattle.layer_table.specs.TableLines.{asked_in_range}
 use Rattle.layer_table.specs.TableLines.{IsLayerSpec, table_refusal}
 use Rattle.dmlw_script.proofs.ReaderLaws.{bind_at, fold, fold_append, made_err, made_ok}
@@ -27,7 +27,7 @@ use Rattle.dmlw_script.specs.FirstFault.{bare, with_layer}
 use Rattle.dmlw_script.specs.inside.Heads.{asked_layer, data_layer, head_step, layer_step, with_log}
 use Rattle.dmlw_script.specs.inside.Stages.{Stage}
 use Rattle.dmlw_script.specs.inside.Stages as heads
-use Rattle.dmlw_script.specs.Plans.{top_of, Disk, IsDisk, is_disk_size, is_log_disk_size, is_within}
+use Rattle.dmlw_script.specs.Plans.{top_of, Disk, IsDisk, is_disk_size, is_log_disk_size, layer_is_within}
 use Rattle.dmlw_script.specs.Plans.{least_sectors}
 
 pub top_is_last : (sectors : ℕ) (layers : List LayerSpec) (layer : LayerSpec)
@@ -42,9 +42,9 @@ pub top_push : (sectors : ℕ) (layers : List LayerSpec) (layer : LayerSpec)
 top_push sectors [] layer = refl
 top_push sectors (first ∷ layers) layer = top_push first.length layers layer
 
-stand_push : (sectors : ℕ) (layers : List LayerSpec) (layer : LayerSpec) → IsAllowed sectors layers
+stand_push : (sectors : ℕ) (layers : List LayerSpec) (layer : LayerSpec) → LayersAreAllowed sectors layers
     → IsLayerSpec layer → layer.offset + layer.length ≤ top_sectors sectors layers
-    → IsAllowed sectors (layers ++ layer ∷ [])
+    → LayersAreAllowed sectors (layers ++ layer ∷ [])
 stand_push sectors [] layer stand is within = (is, within, tt)
 stand_push sectors (first ∷ layers) layer stand is within =
     (stand.0, stand.1, stand_push first.length layers layer stand.2 is within)
@@ -53,25 +53,25 @@ pub bare_disk : (sectors : ℕ) → is_disk_size sectors ≡ true → IsDisk (ba
 bare_disk sectors size = record { size = size; few = omega arith; stand = tt }
 
 pub disk_push : (disk : Disk) (layer : LayerSpec) → IsDisk disk → length disk.layers < 4
-    → IsLayerSpec layer → is_within layer (top_of disk) ≡ true → IsDisk (with_layer disk layer)
+    → IsLayerSpec layer → layer_is_within layer (top_of disk) ≡ true → IsDisk (with_layer disk layer)
 disk_push disk layer is few fine within = grind (arith, length-append, stand_push, leb-true)
 
 pub disk_small : (disk : Disk) → IsDisk disk → disk.sectors ≤ 1048576
 disk_small disk is = grind (arith, leb-true, and_parts)
 
-pub layer_specs : (sectors : ℕ) (layers : List LayerSpec) → IsAllowed sectors layers
+pub layer_specs : (sectors : ℕ) (layers : List LayerSpec) → LayersAreAllowed sectors layers
     → AllByRecursion IsLayerSpec layers
 layer_specs sectors [] stand = tt
 layer_specs sectors (layer ∷ layers) stand =
     (stand.0, layer_specs layer.length layers stand.2)
 
-pub top_small : (sectors : ℕ) (layers : List LayerSpec) → IsAllowed sectors layers
+pub top_small : (sectors : ℕ) (layers : List LayerSpec) → LayersAreAllowed sectors layers
     → sectors ≤ 1048576 → top_sectors sectors layers ≤ 1048576
 top_small sectors [] stand small = small
 top_small sectors (layer ∷ layers) stand small =
     top_small layer.length layers stand.2 (let lengths = stand.0.sectors in lengths.few)
 
-pub top_within : (sectors : ℕ) (layers : List LayerSpec) → IsAllowed sectors layers
+pub top_within : (sectors : ℕ) (layers : List LayerSpec) → LayersAreAllowed sectors layers
     → top_sectors sectors layers ≤ sectors
 top_within sectors [] stand = omega arith
 top_within sectors (layer ∷ layers) stand =
@@ -84,13 +84,13 @@ abbrev pub AreLong : ℕ → List LayerSpec → Type 0
 AreLong least layers = AllByRecursion (λ (layer : LayerSpec). least ≤ layer.length) layers
 
 -- Each layer is at least as long as the top one, so it is enough to test the top.
-pub long_below : (least sectors : ℕ) (layers : List LayerSpec) → IsAllowed sectors layers
+pub long_below : (least sectors : ℕ) (layers : List LayerSpec) → LayersAreAllowed sectors layers
     → least ≤ top_sectors sectors layers → AreLong least layers
 long_below least sectors [] stand long = tt
 long_below least sectors (layer ∷ layers) stand long =
     grind (arith, long_below least layer.length layers stand.2 long, top_within)
 
-pub long_enough : (sectors : ℕ) (layers : List LayerSpec) → IsAllowed sectors layers
+pub long_enough : (sectors : ℕ) (layers : List LayerSpec) → LayersAreAllowed sectors layers
     → AreLong 1 layers
 long_enough sectors [] stand = tt
 long_enough sectors (layer ∷ layers) stand = grind (arith, long_enough layer.length layers stand.2)
@@ -122,14 +122,14 @@ under sectors layers = record { sectors = sectors; layers = layers }
 pub bare_is : (d : Disk) → d.layers ≡ [] → bare d.sectors ≡ d
 bare_is d none = ap (under d.sectors) (sym none)
 
-abbrev pub HasRoom : SectorSize → Disk → Type 0
-HasRoom size disk = bytes_of size / 512 ≤ top_of disk
+abbrev pub HeadHasRoom : SectorSize → Disk → Type 0
+HeadHasRoom size disk = bytes_of size / 512 ≤ top_of disk
 
 abbrev pub IsHead : Stage → Type 0
 IsHead heads.Empty = Unit {0}
 IsHead (heads.Data d) = IsDisk d × (d.layers ≡ [])
-IsHead (heads.Whole d l size) = IsDisk d × IsDisk l × HasRoom size l
-IsHead (heads.Ended d l size picks) = IsDisk d × IsDisk l × HasRoom size l
+IsHead (heads.Whole d l size) = IsDisk d × IsDisk l × HeadHasRoom size l
+IsHead (heads.Ended d l size picks) = IsDisk d × IsDisk l × HeadHasRoom size l
 
 -- What a head line's own words guarantee about its meaning.
 abbrev pub IsFineHead : HeadLine → Type 0
@@ -144,9 +144,9 @@ fine_head (head_lines.Layer over (Ok spec)) verb (Some words) says =
 fine_head (head_lines.Layer over (Ok spec)) verb None says = absurd says.1
 fine_head said verb left says = tt
 
-pub record Fits (least : ℕ) (disk : Disk) (spec : LayerSpec) : Type 0 where
+pub record HeadFits (least : ℕ) (disk : Disk) (spec : LayerSpec) : Type 0 where
   pub few : length disk.layers < 4
-  pub within : is_within spec (top_of disk) ≡ true
+  pub within : layer_is_within spec (top_of disk) ≡ true
   pub long : least ≤ spec.length
 
 -- The stage after one more head line; if `closed` is true, no layer may follow any more.
@@ -156,11 +156,11 @@ pub data Takes (closed : Bool) : Stage → HeadLine → Stage → Type 0 where
   log_size : (d : Disk) (n : ℕ) (size : SectorSize) → is_log_disk_size (bytes_of size) n ≡ true
       → Takes closed (heads.Data d) (head_lines.Log n size) (heads.Whole d (bare n) size)
   data_top : (d l : Disk) (size : SectorSize) (spec : LayerSpec) → closed ≡ false → l.layers ≡ []
-      → Fits (least_sectors disks.Data size) d spec
+      → HeadFits (least_sectors disks.Data size) d spec
       → Takes closed (heads.Whole d l size) (head_lines.Layer disks.Data (Ok spec))
       (heads.Whole (with_layer d spec) l size)
   log_top : (d l : Disk) (size : SectorSize) (spec : LayerSpec) → closed ≡ false
-      → Fits (least_sectors disks.Log size) l spec
+      → HeadFits (least_sectors disks.Log size) l spec
       → Takes closed (heads.Whole d l size) (head_lines.Layer disks.Log (Ok spec))
       (heads.Whole d (with_layer l spec) size)
 
@@ -227,7 +227,7 @@ module _ {W : Type 0} (on_data on_log : LayerSpec → W) where
       ≡ Ok (under sectors (done ++ layer ∷ []))
       → step (at done) (line layer) ≡ Ok (at (done ++ layer ∷ [])))
       → (done layers : List LayerSpec) → length done + length layers ≤ 4
-      → IsAllowed (top_sectors sectors done) layers → AreLong least layers
+      → LayersAreAllowed (top_sectors sectors done) layers → AreLong least layers
       → fold step (at done) (map line layers) ≡ Ok (at (done ++ layers))
   some_again step line least sectors at one done [] few stand long = grind (arith, append-nil)
   some_again step line least sectors at one done (layer ∷ layers) few stand long =
@@ -251,7 +251,7 @@ module _ {W : Type 0} (on_data on_log : LayerSpec → W) where
       → ((d l top : Disk) (layer : LayerSpec)
       → layer_step (least_sectors disks.Log size) l (Ok layer) ≡ Ok top
       → step (at d l) (on_log layer) ≡ Ok (at d top))
-      → (d l : Disk) → IsDisk d → IsDisk l → HasRoom size l
+      → (d l : Disk) → IsDisk d → IsDisk l → HeadHasRoom size l
       → fold step (at (bare d.sectors) (bare l.sectors)) (layer_lines d l) ≡ Ok (at d l)
   layers_again step at size one other d l is_data is_log room =
       fold_append step (at (bare d.sectors) (bare l.sectors)) (at d (bare l.sectors))
@@ -295,7 +295,7 @@ module _ {W : Type 0} (on_data on_log : LayerSpec → W) where
         d.layers) (after_some on_log (λ (ls : List LayerSpec). at d (under l.sectors ls)) (λ
         done layer. other d (under l.sectors done) layer) [] l.layers)
 
-pub sizes_again : (d l : Disk) (size : SectorSize) → IsDisk d → IsDisk l → HasRoom size l
+pub sizes_again : (d l : Disk) (size : SectorSize) → IsDisk d → IsDisk l → HeadHasRoom size l
     → (is_disk_size d.sectors ≡ true) × (is_log_disk_size (bytes_of size) l.sectors ≡ true)
 sizes_again d l size is_data is_log room = grind (arith, top_within, and_from, le-leb)
 
@@ -316,7 +316,7 @@ disk_over disks.Log d l = l
 abbrev pub asked_refusal : (least : ℕ) → Disk → Result LayerSpec TableError → Option Refusal
 asked_refusal least disk (Err error) = Some (table_refusal error)
 asked_refusal least disk (Ok spec) =
-    cond (is_within spec (top_of disk)) (cond (nat_le least spec.length) None (Some BadLine))
+    cond (layer_is_within spec (top_of disk)) (cond (nat_le least spec.length) None (Some BadLine))
     (Some OutOfRange)
 
 -- A head line is refused because it may not follow here, or because it asks for no layer that fits.
@@ -333,7 +333,7 @@ asked_err : (least : ℕ) (disk : Disk) (asked : Result LayerSpec TableError) (r
     → asked_layer least disk asked ≡ Err refusal → asked_refusal least disk asked ≡ Some refusal
 asked_err least disk (Err error) refusal e = cc
 asked_err least disk (Ok spec) refusal e =
-    by_tests (is_within spec (top_of disk)) (nat_le least spec.length) e
+    by_tests (layer_is_within spec (top_of disk)) (nat_le least spec.length) e
   where
     by_tests : (within long : Bool)
         → cond within (cond long (Ok (with_layer disk spec)) (Err BadLine)) (Err OutOfRange)

@@ -30,7 +30,7 @@ use Rattle.dmlw_script.specs.Grammar.{ParsesAs}
 use Rattle.dmlw_script.specs.Words.{byte_of, id_of_word, is_line_text, is_skipped}
 use Rattle.dmlw_script.specs.inside.LineParser.{◌>>=◌, body_words, discard_words, disk_of_word}
 use Rattle.dmlw_script.specs.inside.LineParser.{found_options}
-use Rattle.dmlw_script.specs.inside.LineParser.{head_words, layer_of, log_of, mark_of, message_of}
+use Rattle.dmlw_script.specs.inside.LineParser.{head_words, layer_meaning, log_of, mark_of, message_of}
 use Rattle.dmlw_script.specs.inside.LineParser.{options_of, parse_line, parse_parts, picks_of}
 use Rattle.dmlw_script.specs.inside.LineParser.{plain_parts, sectors_of, size_of, step}
 use Rattle.dmlw_script.specs.inside.LineParser.{submission_of, submit, submit_of, take_word}
@@ -43,7 +43,7 @@ use Rattle.bio.specs.RequestLaws.{sized_passed}
 use Rattle.dmlw_script.specs.declared.command.Step.{Step}
 use Rattle.dmlw_script.specs.Plans.{range_test, step_answer, submission_answer, HasLineText}
 use Rattle.dmlw_script.specs.Plans.{WritesByte}
-use Rattle.dmlw_script.proofs.Spelling.{Fits, FitsLine, FitsWord}
+use Rattle.dmlw_script.proofs.Spelling.{Fits, FitsFields, FitsWord}
 use Rattle.dmlw_script.proofs.ReaderLaws.{barred_ok}
 
 pub at_end : (left : Option (List ℕ)) → HasFields [] left → left ≡ None
@@ -275,7 +275,7 @@ body_read verb words s =
     subst (λ (x : LineMeaning). SaysWords words (codes "r") x) (same_some _ s a.2)
     (refl, sectors_read words a.0 a.1))
     (verb_read (SaysWords words) verb (codes "at") _ _ s
-    (λ e. let p = map_some (λ moment. step (steps.At moment)) (number_of words) s e in
+    (λ e. let p = map_some (λ time. step (steps.At time)) (number_of words) s e in
     subst (λ (x : LineMeaning). SaysWords words (codes "at") x) p.2
     (refl, last_number_read words p.0 p.1))
     (submit_read verb words s)))
@@ -312,10 +312,10 @@ head_read verb words s =
     ))
     (verb_read (SaysHead words) verb (codes "data-layer") _ _ s
     (λ e. subst (λ (x : HeadLine). SaysHead words (codes "data-layer") x)
-    (same_some (layer_of disks.Data words) s e) (refl, refl))
+    (same_some (layer_meaning disks.Data words) s e) (refl, refl))
     (verb_read (SaysHead words) verb (codes "log-layer") _ _ s
     (λ e. subst (λ (x : HeadLine). SaysHead words (codes "log-layer") x)
-    (same_some (layer_of disks.Log words) s e) (refl, refl))
+    (same_some (layer_meaning disks.Log words) s e) (refl, refl))
     (λ e. absurd (cc e)))))
 
 plain_read : (verb : List ℕ) (left : Option (List ℕ)) (s : LineMeaning)
@@ -476,8 +476,8 @@ parts_again (parsed_lines.Body (body_lines.Step (steps.Read first count))) verb 
 parts_again (parsed_lines.Body (body_lines.Step steps.Turn)) verb None says = rw says.0 refl
 parts_again (parsed_lines.Body (body_lines.Step (steps.Mark text))) verb left says =
     rw says.0 (mark_again text left says.1)
-parts_again (parsed_lines.Body (body_lines.Step (steps.At moment))) verb (Some words) says =
-    rw says.0 (ap (option_map (λ k. step (steps.At k))) (last_number_again words moment says.1))
+parts_again (parsed_lines.Body (body_lines.Step (steps.At time))) verb (Some words) says =
+    rw says.0 (ap (option_map (λ k. step (steps.At k))) (last_number_again words time says.1))
 parts_again (parsed_lines.Body (body_lines.Step (steps.Message over layer text))) verb
     (Some words) says =
     rw says.0 (message_again over layer text words says.1)
@@ -519,7 +519,7 @@ submission_fits bytes sectors submits.Flush small passes low = ((refl, refl), tt
 submission_fits bytes sectors other small passes low = grind (arith, range_low)
 
 pub step_fits : (bytes sectors : ℕ) (it : Step) → sectors ≤ 1048576
-    → step_answer bytes sectors it ≡ Ok tt → HasLineText it → FitsLine (step_fields it)
+    → step_answer bytes sectors it ≡ Ok tt → HasLineText it → FitsFields (step_fields it)
 step_fits bytes sectors steps.Close small passes text = grind arith
 step_fits bytes sectors (steps.Read first count) small passes text = grind (arith, range_low)
 step_fits bytes sectors other small passes rest = grind arith

@@ -12,7 +12,7 @@ use Rattle.refusals.specs.declared.run_error.Fault.{Fault}
 use Rattle.dmlw_script.specs.FirstFault.{is_memory}
 use Rattle.dmlw_script.specs.inside.Drafts.{◌>>=◌}
 use Rattle.dmlw_script.specs.inside.Readers.{and_then, at_line, line_by, read_by, step_if, IsFault}
-use Rattle.dmlw_script.specs.inside.Readers.{Reads}
+use Rattle.dmlw_script.specs.inside.Readers.{ReadsLine}
 use Rattle.dmlw_script.specs.Words.{is_ascii_line, is_skipped, unskipped}
 
 pub bind_ok : {A B : Type 0} (r : Result A Refusal) (f : A → Result B Refusal) (y : B)
@@ -199,24 +199,24 @@ pub kept_said : (line : List ℕ) (lines : List (List ℕ)) → is_skipped line 
 kept_said line lines e = cond-true _ _ _ (ap not e)
 
 -- Each line is ASCII without zero bytes, and the unskipped lines have the meanings `ws`.
-pub record Tells {W : Type 0} (Says : List ℕ → W → Type 0) (lines : List (List ℕ))
+pub record LinesMean {W : Type 0} (Says : List ℕ → W → Type 0) (lines : List (List ℕ))
     (ws : List W) : Type 0 where
   pub plain : AllByRecursion (λ line. is_ascii_line line ≡ true) lines
   pub says : AllZip Says (unskipped lines) ws
 
 pub tells_skipped : {W : Type 0} (Says : List ℕ → W → Type 0) (line : List ℕ)
     (lines : List (List ℕ)) (ws : List W) → is_ascii_line line ≡ true
-    → is_skipped line ≡ true → Tells Says lines ws → Tells Says (line ∷ lines) ws
+    → is_skipped line ≡ true → LinesMean Says lines ws → LinesMean Says (line ∷ lines) ws
 tells_skipped Says line lines ws plain skipped h = grind (arith, kept_skipped)
 
 pub tells_said : {W : Type 0} (Says : List ℕ → W → Type 0) (line : List ℕ) (lines : List (List ℕ))
     (w : W) (ws : List W) → is_ascii_line line ≡ true →
-    is_skipped line ≡ false → Says line w → Tells Says lines ws → Tells Says (line ∷ lines) (w ∷ ws)
+    is_skipped line ≡ false → Says line w → LinesMean Says lines ws → LinesMean Says (line ∷ lines) (w ∷ ws)
 tells_said Says line lines w ws plain kept says h = grind (arith, kept_said)
 
 -- The reader of one kind of script, and the facts from which the laws of its texts follow.
 -- `S` is the state of the reader, `W` the meaning of a line, and `A` the script.
-pub record Reader (S W A : Type 0) : Type 1 where
+pub record ReaderLaw (S W A : Type 0) : Type 1 where
   pub parse : List ℕ → Option W
   pub Says : List ℕ → W → Type 0
   pub parse_says : (line : List ℕ) (w : W) → parse line ≡ Some w → Says line w
@@ -227,10 +227,10 @@ pub record Reader (S W A : Type 0) : Type 1 where
   pub lines_of_script : A → List W
   pub IsScript : A → Type 0
   pub Spells : List (List ℕ) → A → Type 0
-  pub spells : (lines : List (List ℕ)) (plan : A) → Tells Says lines (lines_of_script plan)
+  pub spells : (lines : List (List ℕ)) (plan : A) → LinesMean Says lines (lines_of_script plan)
       → IsScript plan → Spells lines plan
   pub spelled : (lines : List (List ℕ)) (plan : A) → Spells lines plan
-      → Tells Says lines (lines_of_script plan) × IsScript plan
+      → LinesMean Says lines (lines_of_script plan) × IsScript plan
   pub IsFine : W → Type 0
   pub fine_said : (line : List ℕ) (w : W) → Says line w → IsFine w
   pub IsBegun : S → Type 0
@@ -244,7 +244,7 @@ pub record Reader (S W A : Type 0) : Type 1 where
   pub script_again : (plan : A) → IsScript plan
       → (fold step start (lines_of_script plan) >>= finish) ≡ Ok plan
 
-module _ {S W A : Type 0} (r : Reader S W A) where
+module _ {S W A : Type 0} (r : ReaderLaw S W A) where
   abbrev pub takes : S → List ℕ → Result S Refusal
   takes s line = line_by r.parse r.step s line
 
@@ -266,7 +266,7 @@ module _ {S W A : Type 0} (r : Reader S W A) where
   -- Reading `lines` in the state `s` adds the meanings `said`, and ends in the state `t`.
   record Grown (s t : S) (lines : List (List ℕ)) : Type 0 where
     said : List W
-    tells : Tells r.Says lines said
+    tells : LinesMean r.Says lines said
     begun : r.IsBegun t
     more : r.lines_so_far t ≡ r.lines_so_far s ++ said
 
@@ -312,7 +312,7 @@ module _ {S W A : Type 0} (r : Reader S W A) where
   -- Reading `lines` ends in the state `s`, which holds the meanings of all of them.
   pub record Reached (lines : List (List ℕ)) (s : S) : Type 0 where
     pub gone : fold takes r.start lines ≡ Ok s
-    pub tells : Tells r.Says lines (r.lines_so_far s)
+    pub tells : LinesMean r.Says lines (r.lines_so_far s)
     pub begun : r.IsBegun s
 
   pub reached : (lines : List (List ℕ)) (s : S) → fold takes r.start lines ≡ Ok s
@@ -408,7 +408,7 @@ module _ {S W A : Type 0} (r : Reader S W A) where
   no_fault_read lines plan fault (Some number) is read spells =
       absurd (let both = sym (spelled_lines 1 lines plan spells) ∙ read in cc)
 
-  pub found : (lines : List (List ℕ)) (answer : Result A Fault) → Reads answer (reads 1 lines)
+  pub found : (lines : List (List ℕ)) (answer : Result A Fault) → ReadsLine answer (reads 1 lines)
       → IfOk answer (λ plan. r.Spells lines plan)
   found lines (Ok plan) read = lines_spell 1 lines plan read
   found lines (Err fault) read = tt
@@ -417,7 +417,7 @@ module _ {S W A : Type 0} (r : Reader S W A) where
   pub only : (IsAnswer : Result A Fault → Type 0) (lines : List (List ℕ)) (plan : A)
       (answer : Result A Fault) → ((script : A) → script ≡ plan → IsAnswer (Ok script))
       → ((fault : Fault) → fault ≡ is_memory → IsAnswer (Err fault))
-      → Reads answer (reads 1 lines) → r.Spells lines plan → IsAnswer answer
+      → ReadsLine answer (reads 1 lines) → r.Spells lines plan → IsAnswer answer
   only IsAnswer lines plan (Ok script) same memory read spells =
       same script (let both = sym read ∙ spelled_lines 1 lines plan spells in cc)
   only IsAnswer lines plan (Err fault) same memory read spells =

@@ -33,7 +33,7 @@ use Rattle.dmlw_script.specs.inside.Drafts.{◌>>=◌, body_step, ended_next, na
 use Rattle.dmlw_script.specs.inside.Drafts.{step_test, with_command, Body}
 use Rattle.dmlw_script.specs.Grammar.{AreLinesOf}
 use Rattle.dmlw_script.specs.Words.{same_name}
-use Rattle.dmlw_script.specs.Plans.{disk_of, least_sectors, time_after, request_of, step_answer}
+use Rattle.dmlw_script.specs.Plans.{named_disk, least_sectors, time_after, request_of, step_answer}
 use Rattle.dmlw_script.specs.Plans.{submission_answer, top_of, Disk, ScriptValue, head_of}
 use Rattle.dmlw_script.specs.Plans.{layer_line, lines_of_body, time_at_step, time_from}
 use Rattle.dmlw_script.specs.inside.Readers.{body_line, crash_line, finish_step, finished}
@@ -50,10 +50,10 @@ use Rattle.dmlw_script.proofs.HeadLaws.{after_both, after_layers, asked_refusal,
 use Rattle.dmlw_script.proofs.HeadLaws.{head_refused, layer_lines, misplaced, no_layer, HeadRefused}
 use Rattle.dmlw_script.proofs.HeadLaws.{HeadStands}
 use Rattle.dmlw_script.proofs.RecorderLaws.{at, ended_plan, lines_of_progress, plan_of, recorder}
-use Rattle.dmlw_script.proofs.RecorderLaws.{IsBegun}
-use Rattle.dmlw_script.proofs.FaultLaws.{Completes, Faults}
+use Rattle.dmlw_script.proofs.RecorderLaws.{HasReadPrefix}
+use Rattle.dmlw_script.proofs.FaultLaws.{CompletesScript, ReaderFaults}
 
-pub completes : (h : Stage) (b : Body) (number : ℕ) → Completes recorder (at h b) number
+pub completes : (h : Stage) (b : Body) (number : ℕ) → CompletesScript recorder (at h b) number
 completes (heads.Whole d l size) b number =
     record { more = []; plan = plan_of d l size b; read = refl }
 completes (heads.Ended d l size picks) b number =
@@ -86,16 +86,16 @@ prefix_of (heads.Ended d l size picks) body = at_end
 abbrev pub prefix_at : Progress → Prefix
 prefix_at p = prefix_of p.head p.body.body
 
-after_more : (d l : Disk) (names : List ScriptId) (n moment : ℕ) (body : List Command)
-    → prefix_after (in_body d l moment) (lines_of_body names n body)
-    ≡ in_body d l (time_from moment body)
-after_more d l names n moment [] = refl
-after_more d l names n moment (commands.Submit submission ∷ body) =
-    after_more d l names (n + 1) moment body
-after_more d l names n moment (commands.Complete request ∷ body) =
-    after_more d l names n moment body
-after_more d l names n moment (commands.Step step ∷ body) =
-    after_more d l names n (time_at_step moment step) body
+after_more : (d l : Disk) (names : List ScriptId) (n time : ℕ) (body : List Command)
+    → prefix_after (in_body d l time) (lines_of_body names n body)
+    ≡ in_body d l (time_from time body)
+after_more d l names n time [] = refl
+after_more d l names n time (commands.Submit submission ∷ body) =
+    after_more d l names (n + 1) time body
+after_more d l names n time (commands.Complete request ∷ body) =
+    after_more d l names n time body
+after_more d l names n time (commands.Step step ∷ body) =
+    after_more d l names n (time_at_step time step) body
 
 after_body : (d l : Disk) (names : List ScriptId) (body : List Command)
     → prefix_after (in_head d l) (lines_of_body names 0 body) ≡ body_prefix d l body
@@ -124,7 +124,7 @@ after_disks d l names body =
     (λ p s ss. refl) in_head (λ x y layer. refl) (λ x y layer. refl) d l)
     ∙ after_body d l names body
 
-pub after_lines : (h : Stage) (b : Body) → IsBegun (at h b)
+pub after_lines : (h : Stage) (b : Body) → HasReadPrefix (at h b)
     → prefix_after data_due (lines_of_progress (at h b)) ≡ prefix_at (at h b)
 after_lines heads.Empty b begun = grind (arith, data_due)
 after_lines (heads.Data d) b begun = grind (arith, data_due, log_due, bare_is)
@@ -243,7 +243,7 @@ stood_head h body line stands = absurd stands
 
 head_refusal_is : (plan : ScriptValue) (over : DiskName) (asked : Result LayerSpec TableError)
     → head_refusal plan (head_lines.Layer over asked)
-    ≡ asked_refusal (least_sectors over plan.log_size) (disk_of over plan) asked
+    ≡ asked_refusal (least_sectors over plan.log_size) (named_disk over plan) asked
 head_refusal_is plan over (Err error) = refl
 head_refusal_is plan over (Ok spec) = refl
 
@@ -279,7 +279,7 @@ pub why_fault : (before : List (List ℕ)) (line : List ℕ) (refusal : Refusal)
 why_fault before line refusal (bad_line never) = inl (never, refl)
 why_fault before line refusal (refused s plan why at spells is) = inr (s, plan, at, spells, is)
 
-abbrev pub recorder_faults : Faults recorder Prefix
+abbrev pub recorder_faults : ReaderFaults recorder Prefix
 recorder_faults = record {
   after = prefix_after data_due;
   Stands = MayFollowInScript;

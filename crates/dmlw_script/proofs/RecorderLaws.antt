@@ -37,11 +37,11 @@ use Rattle.dmlw_script.specs.Words.{is_id, script_id}
 use Rattle.dmlw_script.proofs.WordLaws.{byte_low}
 use Rattle.refusals.specs.Words.{after_byte, before_byte}
 use Rattle.dmlw_script.specs.inside.Readers.{body_line, crash_line, finish_step, finished}
-use Rattle.dmlw_script.specs.inside.Readers.{has_begun, nothing, parsed_step, with_head, Progress}
+use Rattle.dmlw_script.specs.inside.Readers.{has_begun, unread, parsed_step, with_head, Progress}
 use Rattle.dmlw_script.specs.inside.LineParser.{parse_line}
 use Rattle.dmlw_script.proofs.BodyLaws.{in_draft, lines_grow, lines_of_draft, run, run_again}
-use Rattle.dmlw_script.proofs.BodyLaws.{step_grows, IsFine, IsSound}
-use Rattle.dmlw_script.proofs.ReaderLaws.{Reader, bind_at, fold_append, made_ok}
+use Rattle.dmlw_script.proofs.BodyLaws.{step_grows, IsFine, IsSoundBody}
+use Rattle.dmlw_script.proofs.ReaderLaws.{ReaderLaw, bind_at, fold_append, made_ok}
 use Rattle.dmlw_script.proofs.LineParserLaws.{parsed_again, parsed_read, text_left, word_left}
 use Rattle.dmlw_script.proofs.HeadLaws.{bodiless, data_push, fine_head, head_kept, head_taken}
 use Rattle.dmlw_script.proofs.HeadLaws.{layer_lines, layers_again, log_push, sizes_again, data_size}
@@ -81,8 +81,8 @@ fine_left (parsed_lines.Body (body_lines.Submit name s)) verb (Some words) says 
 fine_left (parsed_lines.Body (body_lines.Submit name s)) verb None says = absurd says.1
 fine_left (parsed_lines.Body (body_lines.Step (steps.Mark text))) verb left says =
     let t = text_left text left says.1 in t.1
-fine_left (parsed_lines.Body (body_lines.Step (steps.At moment))) verb left says =
-    let n = word_left (Number moment) [] left says.1 in number_low (before_byte 32 n.0) moment (number_read (before_byte 32 n.0) moment n.2)
+fine_left (parsed_lines.Body (body_lines.Step (steps.At time))) verb left says =
+    let n = word_left (Number time) [] left says.1 in number_low (before_byte 32 n.0) time (number_read (before_byte 32 n.0) time n.2)
 fine_left (parsed_lines.Body (body_lines.Step (steps.Message over layer text))) verb left says =
     let d = word_left (Given (disk_word over)) (number layer ∷ Text text ∷ []) left says.1 in
     let n = word_left (Number layer) (Text text ∷ []) (after_byte 32 d.0) d.3 in
@@ -96,7 +96,7 @@ fine_said line s says = fine_left s (before_byte 32 line) (after_byte 32 line) s
 abbrev pub no_body : Body
 no_body = record { names = []; body = [] }
 
-pub no_body_sound : (bytes sectors : ℕ) → IsSound bytes sectors no_body
+pub no_body_sound : (bytes sectors : ℕ) → IsSoundBody bytes sectors no_body
 unfolding IsDistinct
 no_body_sound bytes sectors = record { ids = tt; distinct = tt; numbered = refl; well_formed = tt }
 
@@ -120,13 +120,13 @@ at h b = record { head = h; body = b }
 abbrev pub HasBody : Stage → Body → Type 0
 HasBody heads.Empty b = b ≡ no_body
 HasBody (heads.Data d) b = b ≡ no_body
-HasBody (heads.Whole d l size) b = IsSound (bytes_of size) (top_of d) b
+HasBody (heads.Whole d l size) b = IsSoundBody (bytes_of size) (top_of d) b
 HasBody (heads.Ended d l size picks) b =
-    IsSound (bytes_of size) (top_of d) b × AllByRecursion (λ pick. pick < 2 ^ 64) picks
+    IsSoundBody (bytes_of size) (top_of d) b × AllByRecursion (λ pick. pick < 2 ^ 64) picks
 
 -- The state is that of a reader that has read a prefix of a script.
-abbrev pub IsBegun : Progress → Type 0
-IsBegun p = IsHead p.head × HasBody p.head p.body
+abbrev pub HasReadPrefix : Progress → Type 0
+HasReadPrefix p = IsHead p.head × HasBody p.head p.body
 
 abbrev pub lines_of_head : Stage → List LineMeaning
 lines_of_head heads.Empty = []
@@ -145,12 +145,12 @@ lines_of_progress p = lines_of_head p.head ++ with_ending (ending_of p.head) (li
 
 -- The state `q` is the state `p` after one more line with the meaning `s`.
 abbrev pub GrowsBy : Progress → Progress → LineMeaning → Type 0
-GrowsBy p q s = IsBegun q × (lines_of_progress q ≡ lines_of_progress p ++ s ∷ [])
+GrowsBy p q s = HasReadPrefix q × (lines_of_progress q ≡ lines_of_progress p ++ s ∷ [])
 
 -- This lets a layer of the data disk change the number of sectors before the body begins.
 sound_anew : (bytes sectors other : ℕ) (names : List ScriptId)
-    → IsSound bytes sectors (record { names = names; body = [] })
-    → IsSound bytes other (record { names = names; body = [] })
+    → IsSoundBody bytes sectors (record { names = names; body = [] })
+    → IsSoundBody bytes other (record { names = names; body = [] })
 sound_anew bytes sectors other names sound =
     record {
       ids = sound.ids;
@@ -164,7 +164,7 @@ first_two d l size more = data_line d.sectors ∷ log_line l.sectors size ∷ mo
 
 -- A head line keeps the condition on the body, and adds one line to those that were read.
 head_adds : (h k : Stage) (names : List ScriptId) (body : List Command) (line : HeadLine)
-    → Takes (has_begun body) h line k → IsBegun (at h (record { names = names; body = body }))
+    → Takes (has_begun body) h line k → HasReadPrefix (at h (record { names = names; body = body }))
     → HasBody k (record { names = names; body = body })
     × (lines_of_progress (at k (record { names = names; body = body }))
     ≡ lines_of_progress (at h (record { names = names; body = body }))
@@ -174,7 +174,7 @@ head_adds h k names body line (data_size n fits) begun =
     (begun.1, rw none refl)
 head_adds h k names body line (log_size d n size fits) begun =
     let none : lines_of_body names 0 body ≡ [] = ap lines_of_draft begun.1 in (
-      subst (IsSound (bytes_of size) (top_of d)) (sym begun.1)
+      subst (IsSoundBody (bytes_of size) (top_of d)) (sym begun.1)
           (no_body_sound (bytes_of size) (top_of d)),
       rw (none, begun.0.1) refl,
     )
@@ -193,7 +193,7 @@ head_adds h k names (command ∷ body) line (data_top d l size spec may none fit
 head_adds h k names (command ∷ body) line (log_top d l size spec may fits) begun = absurd (cc)
 
 body_grows : (h : Stage) (b : Body) (q : Progress) (line : BodyLine)
-    → body_line h (at h b) line ≡ Ok q → IsFine line → IsBegun (at h b)
+    → body_line h (at h b) line ≡ Ok q → IsFine line → HasReadPrefix (at h b)
     → GrowsBy (at h b) q (parsed_lines.Body line)
 body_grows (heads.Whole d l size) b q line e fine begun =
     let p : Progress = in_draft d l size b in
@@ -210,7 +210,7 @@ body_grows h b q line e fine begun = absurd (cc e)
 
 crash_grows : (h : Stage) (b : Body) (q : Progress) (picks : List ℕ)
     → crash_line h (at h b) picks ≡ Ok q → AllByRecursion (λ pick. pick < 2 ^ 64) picks
-    → IsBegun (at h b) → GrowsBy (at h b) q (parsed_lines.Crash picks)
+    → HasReadPrefix (at h b) → GrowsBy (at h b) q (parsed_lines.Crash picks)
 crash_grows (heads.Whole d l size) b q picks e low begun =
     let p : Progress = in_draft d l size b in
     let same : at (heads.Ended d l size picks) b ≡ q = cc in
@@ -222,7 +222,7 @@ crash_grows (heads.Whole d l size) b q picks e low begun =
 crash_grows h b q picks e low begun = absurd (cc e)
 
 pub line_grows : (p q : Progress) (s : LineMeaning) → parsed_step p s ≡ Ok q → IsFineLine s
-    → IsBegun p → GrowsBy p q s
+    → HasReadPrefix p → GrowsBy p q s
 line_grows p q (parsed_lines.Head line) e fine begun =
     let r = made_ok (head_step p.head (has_begun p.body.body) line)
     (λ (h : Stage). at h p.body) q e in
@@ -235,7 +235,7 @@ line_grows p q (parsed_lines.Crash picks) e fine begun =
     crash_grows p.head p.body q picks e fine begun
 
 sound_plan : (d l : Disk) (size : SectorSize) (ending : Option (List ℕ)) (b : Body)
-    → IsHead (heads.Whole d l size) → IsSound (bytes_of size) (top_of d) b → ArePicks ending
+    → IsHead (heads.Whole d l size) → IsSoundBody (bytes_of size) (top_of d) b → ArePicks ending
     → IsPlan (ended_plan d l size ending b)
 sound_plan d l size ending b is sound picks = record {
   data_disk = is.0;
@@ -249,7 +249,7 @@ sound_plan d l size ending b is sound picks = record {
 }
 
 pub finished_read : (h : Stage) (b : Body) (plan : ScriptValue) → finished h b ≡ Ok plan
-    → IsBegun (at h b) → (lines_of_progress (at h b) ≡ lines_of_script plan) × IsPlan plan
+    → HasReadPrefix (at h b) → (lines_of_progress (at h b) ≡ lines_of_script plan) × IsPlan plan
 finished_read (heads.Whole d l size) b plan e begun =
     let same : plan_of d l size b ≡ plan = cc in
     rw (← same) (refl, sound_plan d l size None b begun.0 begun.1 tt)
@@ -273,7 +273,7 @@ ending_again d l size b ss (Some picks) read = (
 )
 
 pub script_again : (plan : ScriptValue) → IsPlan plan
-    → (run nothing (lines_of_script plan) >>= finish_step) ≡ Ok plan
+    → (run unread (lines_of_script plan) >>= finish_step) ≡ Ok plan
 script_again plan is =
     let d = plan.data_disk in
     let l = plan.log_disk in
@@ -283,8 +283,8 @@ script_again plan is =
     let first : Progress = at (heads.Data (bare d.sectors)) no_body in
     let lines = lines_of_body plan.names 0 plan.commands in
     let sizes = sizes_again d l size is.data_disk is.log_disk is.room in
-    let one : parsed_step nothing (data_line d.sectors) ≡ Ok first =
-    ap (with_head nothing) (cond-true _ _ _ sizes.0) in
+    let one : parsed_step unread (data_line d.sectors) ≡ Ok first =
+    ap (with_head unread) (cond-true _ _ _ sizes.0) in
     let two : parsed_step first (log_line l.sectors size) ≡ Ok sized =
     ap (with_head first) (cond-true _ _ _ sizes.1) in
     let layers =
@@ -308,13 +308,13 @@ script_again plan is =
     ∙ end.1 in
     bind_at _ _ _ _ (bind_at _ _ _ _ one (bind_at _ _ _ _ two rest)) end.2
 
-abbrev pub recorder : Reader Progress LineMeaning ScriptValue
+abbrev pub recorder : ReaderLaw Progress LineMeaning ScriptValue
 recorder = record {
   parse = parse_line;
   Says = ParsesAs;
   parse_says = parsed_read;
   says_parse = parsed_again;
-  start = nothing;
+  start = unread;
   step = parsed_step;
   finish = finish_step;
   lines_of_script = lines_of_script;
@@ -324,7 +324,7 @@ recorder = record {
   spelled = λ lines plan it. (record { plain = it.plain; says = it.says }, it.script);
   IsFine = IsFineLine;
   fine_said = fine_said;
-  IsBegun = IsBegun;
+  HasReadPrefix = HasReadPrefix;
   lines_so_far = lines_of_progress;
   start_begun = (tt, refl);
   start_lines = refl;

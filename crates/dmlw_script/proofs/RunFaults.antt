@@ -38,7 +38,7 @@ use Rattle.dmlw_script.proofs.HeadLaws.{head_refused, layer_lines, misplaced, no
 use Rattle.dmlw_script.proofs.HeadLaws.{HeadRefused, HeadStands}
 use Rattle.dmlw_script.proofs.RecorderFaults.{answered_err}
 use Rattle.dmlw_script.proofs.RunLaws.{lines_so_far, run_at, run_plan, runner, seated, IsRunBegun}
-use Rattle.dmlw_script.proofs.FaultLaws.{Completes, Faults}
+use Rattle.dmlw_script.proofs.FaultLaws.{CompletesScript, ReaderFaults}
 
 abbrev pub seated_prefix : Disk → Disk → ℕ → List SeatCall → RunPrefix
 seated_prefix d l seats [] = in_head d l seats
@@ -86,7 +86,7 @@ after_lines (heads.Whole d l size) (Some seats) done begun = after_seats d l sea
 after_lines h seats done begun = absurd (begun.1)
 
 pub completes : (h : Stage) (seats : Option ℕ) (done : List SeatCall) (number : ℕ)
-    → IsRunBegun (run_at h seats done) → Completes runner (run_at h seats done) number
+    → IsRunBegun (run_at h seats done) → CompletesScript runner (run_at h seats done) number
 completes heads.Empty None [] number begun =
     record {
       more = codes "data 1" ∷ codes "log 1" ∷ codes "seats 1" ∷ [];
@@ -221,7 +221,7 @@ pub why_fault : (before : List (List ℕ)) (line : List ℕ) (refusal : Refusal)
 why_fault before line refusal (bad_line never) = inl (never, refl)
 why_fault before line refusal (refused s plan why at spells is) = inr (s, plan, at, spells, is)
 
-abbrev pub runner_faults : Faults runner RunPrefix
+abbrev pub runner_faults : ReaderFaults runner RunPrefix
 runner_faults = record {
   after = prefix_after data_due;
   Stands = MayFollowInRun;

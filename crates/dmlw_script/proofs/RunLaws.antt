@@ -24,15 +24,15 @@ use Rattle.dmlw_script.proofs.HeadLaws.{log_push, map_push}
 use Rattle.dmlw_script.proofs.LineParserLaws.{head_read, kept_by, last_number_again}
 use Rattle.dmlw_script.proofs.LineParserLaws.{last_number_read, log_again, no_mark}
 use Rattle.dmlw_script.proofs.LineParserLaws.{submission_again, submission_read, text_left}
-use Rattle.dmlw_script.proofs.ReaderLaws.{Reader, all_append, bind_at, fold, fold_append, made_ok}
+use Rattle.dmlw_script.proofs.ReaderLaws.{ReaderLaw, all_append, bind_at, fold, fold_append, made_ok}
 use Rattle.dmlw_script.proofs.RecorderLaws.{fine_submission}
 use Rattle.dmlw_script.proofs.WordLaws.{bind_at as bind_word_at, bind_some, chosen, first_some}
 use Rattle.dmlw_script.proofs.WordLaws.{map_some, same_bytes, same_some, verb_read}
 use Rattle.dmlw_script.specs.declared.command.DiskName.TheVariants as disks
 use Rattle.dmlw_script.specs.declared.line.HeadLine.{HeadLine}
 use Rattle.dmlw_script.specs.declared.line.HeadLine.TheVariants as head_lines
-use Rattle.dmlw_script.specs.declared.run_line.Call.{Call}
-use Rattle.dmlw_script.specs.declared.run_line.Call.TheVariants as calls
+use Rattle.dmlw_script.specs.declared.run_line.RunCall.{RunCall}
+use Rattle.dmlw_script.specs.declared.run_line.RunCall.TheVariants as calls
 use Rattle.dmlw_script.specs.declared.run_line.RunLine.{RunLine}
 use Rattle.dmlw_script.specs.declared.run_line.RunLine.TheVariants as run_lines
 use Rattle.dmlw_script.specs.declared.run_line.SeatCall.{SeatCall}
@@ -43,7 +43,7 @@ use Rattle.dmlw_script.specs.Grammar.{AreRunLines, MeansLine}
 use Rattle.dmlw_script.specs.inside.Drafts.{◌>>=◌, as_refusal}
 use Rattle.dmlw_script.specs.inside.Heads.{head_step, with_log}
 use Rattle.dmlw_script.specs.inside.Heads as heads_inside
-use Rattle.dmlw_script.specs.inside.LineParser.{call_of, head_words, mark_call, parse_run_line}
+use Rattle.dmlw_script.specs.inside.LineParser.{seat_call_of, head_words, mark_call, parse_run_line}
 use Rattle.dmlw_script.specs.inside.LineParser.{run_head_line, run_line_parts, seat_line, seat_of}
 use Rattle.dmlw_script.specs.inside.LineParser.{submission_of}
 use Rattle.dmlw_script.specs.inside.Readers.{nothing_read, run_finish_step, said_step, call_line}
@@ -56,27 +56,27 @@ use Rattle.dmlw_script.specs.RunPlans.{IsAllowed, FitsLine, IsRunPlan, RunPlan, 
 use Rattle.dmlw_script.specs.RunPlans.{data_layer, lines_of_run, log_layer, run_head}
 use Rattle.dmlw_script.specs.Words.{is_line_text, is_skipped}
 
-seat_mark_read : (left : Option (List ℕ)) (call : Call) → mark_call left ≡ Some call
+seat_mark_read : (left : Option (List ℕ)) (call : RunCall) → mark_call left ≡ Some call
     → SaysLine (codes "mark") left (call_fields call)
 seat_mark_read None call e = absurd (cc)
 seat_mark_read (Some text) call e =
     let p = cond_some (is_line_text text) (calls.Mark text) call e in
-    subst (λ (x : Call). SaysLine (codes "mark") (Some text) (call_fields x)) p.1 (refl, (p.0, refl))
+    subst (λ (x : RunCall). SaysLine (codes "mark") (Some text) (call_fields x)) p.1 (refl, (p.0, refl))
 
-call_read : (verb : List ℕ) (left : Option (List ℕ)) (call : Call) → call_of verb left ≡ Some call
+call_read : (verb : List ℕ) (left : Option (List ℕ)) (call : RunCall) → seat_call_of verb left ≡ Some call
     → SaysLine verb left (call_fields call)
 call_read verb left call =
     verb_read (λ v c. SaysLine v left (call_fields c)) verb (codes "mark") _ _ call
     (seat_mark_read left call)
     (λ e. let p = map_some calls.Submit (submission_of verb left) call e in
-    subst (λ (x : Call). SaysLine verb left (call_fields x)) p.2 (submission_read verb left p.0 p.1))
+    subst (λ (x : RunCall). SaysLine verb left (call_fields x)) p.2 (submission_read verb left p.0 p.1))
 
-call_left : (call : Call) (words : List ℕ) → IsLineWith words (call_fields call)
+call_left : (call : RunCall) (words : List ℕ) → IsLineWith words (call_fields call)
     → HasFields (all_of (call_fields call)) (Some words)
 call_left (calls.Submit submission) words says = says
 call_left (calls.Mark text) words says = says
 
-left_call : (call : Call) (left : Option (List ℕ)) → HasFields (all_of (call_fields call)) left
+left_call : (call : RunCall) (left : Option (List ℕ)) → HasFields (all_of (call_fields call)) left
     → (words : List ℕ) × (left ≡ Some words) × IsLineWith words (call_fields call)
 left_call (calls.Submit submission) (Some words) has = (words, refl, has)
 left_call (calls.Mark text) (Some words) has = (words, refl, has)
@@ -96,7 +96,7 @@ seat_line_read : (verb words : List ℕ) (said : RunLine) → seat_line verb wor
     → SaysRun words verb said
 seat_line_read verb words said e =
     let a = bind_some (seat_of verb) _ said e in
-    let b = bind_some (call_of (before_byte 32 words) (after_byte 32 words)) _ said a.2 in
+    let b = bind_some (seat_call_of (before_byte 32 words) (after_byte 32 words)) _ said a.2 in
     subst (λ (x : RunLine). SaysRun words verb x)
     (same_some (run_lines.Body (record { seat = a.0; call = b.0 })) said b.2)
     (seat_read verb a.0 a.1, call_left b.0 words (call_read _ _ b.0 b.1))
@@ -123,17 +123,17 @@ pub says_run : (line : List ℕ) (said : RunLine) → parse_run_line line ≡ So
     → MeansLine line said
 says_run line said e = run_parts_read (before_byte 32 line) (after_byte 32 line) said e
 
-call_again : (call : Call) (words : List ℕ) → IsLineWith words (call_fields call)
-    → call_of (before_byte 32 words) (after_byte 32 words) ≡ Some call
+call_again : (call : RunCall) (words : List ℕ) → IsLineWith words (call_fields call)
+    → seat_call_of (before_byte 32 words) (after_byte 32 words) ≡ Some call
 call_again (calls.Submit submission) words says =
     let left = after_byte 32 words in
     let heard = submission_again submission (submission_word submission) left refl says.1 in
-    ap (λ (v : List ℕ). call_of v left) says.0 ∙ cond-false _ _ _ (no_mark submission)
+    ap (λ (v : List ℕ). seat_call_of v left) says.0 ∙ cond-false _ _ _ (no_mark submission)
     ∙ ap (option_map calls.Submit) heard
 call_again (calls.Mark text) words says =
     let t = text_left text (after_byte 32 words) says.1 in
-    ap (λ (v : List ℕ). call_of v (after_byte 32 words)) says.0
-    ∙ ap (call_of (codes "mark")) t.0 ∙ cond-true _ _ _ t.1
+    ap (λ (v : List ℕ). seat_call_of v (after_byte 32 words)) says.0
+    ∙ ap (seat_call_of (codes "mark")) t.0 ∙ cond-true _ _ _ t.1
 
 -- A seat's word is `s` and a number, so it is never the word `seats`.
 not_seats : (word : List ℕ) (seat : ℕ) → number_of word ≡ Some seat
@@ -197,7 +197,7 @@ IsFineRunLine (run_lines.Head line) = IsFineHead line
 IsFineRunLine (run_lines.Seats count) = Unit {0}
 IsFineRunLine (run_lines.Body line) = FitsLine line.call
 
-fine_call : (call : Call) (left : Option (List ℕ)) → HasFields (all_of (call_fields call)) left
+fine_call : (call : RunCall) (left : Option (List ℕ)) → HasFields (all_of (call_fields call)) left
     → FitsLine call
 fine_call (calls.Submit submission) (Some words) has =
     fine_submission submission (after_byte 32 words) has.1
@@ -406,7 +406,7 @@ script_read plan is =
     ∙ calls_read d l size seats [] plan.calls is.calls in
     bind_at _ _ _ _ (bind_at _ _ _ _ one (bind_at _ _ _ _ two (bind_at _ _ _ _ third rest))) refl
 
-abbrev pub runner : Reader RunProgress RunLine RunPlan
+abbrev pub runner : ReaderLaw RunProgress RunLine RunPlan
 runner = record {
   parse = parse_run_line;
   Says = MeansLine;

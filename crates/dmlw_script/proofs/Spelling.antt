@@ -24,7 +24,7 @@ use Rattle.dmlw_script.specs.declared.script_id.ScriptId.{ScriptId}
 use Rattle.dmlw_script.specs.Fields.{IsLineWith, IsWord, Name, Number, One, Seat, Table, Text, Word}
 use Rattle.dmlw_script.specs.Fields.{word_text, Byte, Choice, Field, Fields, Given, HasFields}
 use Rattle.dmlw_script.specs.Fields.{field_text, number, option_text, table_text, text_after}
-use Rattle.dmlw_script.specs.Fields.{text_of}
+use Rattle.dmlw_script.specs.Fields.{fields_text}
 use Rattle.dmlw_script.specs.Grammar.{ended_line, ended_run_line, seats_line}
 use Rattle.dmlw_script.specs.Words.{byte_text, hex_digit, id_of_word, is_id, is_line_byte}
 use Rattle.dmlw_script.specs.Words.{is_line_text, is_name_byte, letters_of, script_id}
@@ -132,32 +132,32 @@ Fits (Table asked ∷ []) = IsTable asked
 Fits (field ∷ fields) = ⊥
 
 -- If `word ++ text` is cut at its first space, `word` is before it, and `fields` are after it.
-record Reads (word text : List ℕ) (fields : List Field) : Type 0 where
+record ReadsBack (word text : List ℕ) (fields : List Field) : Type 0 where
   first : before_byte 32 (word ++ text) ≡ word
   rest : HasFields fields (after_byte 32 (word ++ text))
 
 read_after : (word text : List ℕ) (fields : List Field) → lacks 32 word ≡ true
-    → HasFields fields (Some text) → Reads word (32 ∷ text) fields
+    → HasFields fields (Some text) → ReadsBack word (32 ∷ text) fields
 read_after word text fields whole has = grind (arith, cut_word 32 word (Some text) whole)
 
 reads_after : (fields : List Field) (word : List ℕ) → lacks 32 word ≡ true → Fits fields
-    → Reads word (text_after fields) fields
+    → ReadsBack word (text_after fields) fields
 reads_after [] word whole fits = grind (arith, cut_word 32 word None whole)
 reads_after (One next ∷ fields) word whole fits =
     let w = writable next fits.0 in
     let more = reads_after fields (word_text next) w.whole fits.1 in
-    subst (λ (t : List ℕ). Reads word t (One next ∷ fields)) (sym (after_field (One next) fields))
+    subst (λ (t : List ℕ). ReadsBack word t (One next ∷ fields)) (sym (after_field (One next) fields))
     (read_after word (word_text next ++ text_after fields) (One next ∷ fields) whole
     (rw more.first w.is, more.rest))
 reads_after (Choice true next ∷ fields) word whole fits =
     let more = reads_after fields next fits.0.1 fits.1 in
-    subst (λ (t : List ℕ). Reads word t (Choice true next ∷ fields))
+    subst (λ (t : List ℕ). ReadsBack word t (Choice true next ∷ fields))
     (sym (after_field (Choice true next) fields))
     (read_after word (next ++ text_after fields) (Choice true next ∷ fields) whole
     (more.first, more.rest))
 reads_after (Choice false next ∷ fields) word whole fits =
     let more = reads_after fields word whole fits.1 in
-    subst (λ (t : List ℕ). Reads word t (Choice false next ∷ fields))
+    subst (λ (t : List ℕ). ReadsBack word t (Choice false next ∷ fields))
     (sym (after_field (Choice false next) fields))
     (record { first = more.first; rest = more.rest })
 reads_after (Text text ∷ []) word whole fits =
@@ -182,17 +182,17 @@ line_after (Text text ∷ []) fits = fits
 line_after (Table asked ∷ []) fits = fits.good
 line_after (field ∷ fields) fits = absurd fits
 
-pub record FitsLine (fields : Fields) : Type 0 where
+pub record FitsFields (fields : Fields) : Type 0 where
   pub first : FitsWord fields.first
   pub others : Fits fields.others
 
-pub text_has : (fields : Fields) → FitsLine fields → IsLineWith (text_of fields) fields
+pub text_has : (fields : Fields) → FitsFields fields → IsLineWith (fields_text fields) fields
 text_has fields fits =
     let w = writable fields.first fits.first in
     let r = reads_after fields.others (word_text fields.first) w.whole fits.others in
     (rw r.first w.is, r.rest)
 
-pub text_good : (fields : Fields) → FitsLine fields → IsLineText (text_of fields)
+pub text_good : (fields : Fields) → FitsFields fields → IsLineText (fields_text fields)
 text_good fields fits =
     line_text_append (word_text fields.first) (text_after fields.others)
     (let w = writable fields.first fits.first in w.good) (line_after fields.others fits.others)

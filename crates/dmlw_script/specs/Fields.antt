@@ -18,8 +18,8 @@ use Rattle.dmlw_script.specs.declared.line.HeadLine.TheVariants as head_lines
 use Rattle.dmlw_script.specs.declared.run_line.RunLine.{RunLine}
 use Rattle.dmlw_script.specs.declared.run_line.RunLine.TheVariants as run_lines
 use Rattle.dmlw_script.specs.declared.script_id.ScriptId.{ScriptId}
-use Rattle.dmlw_script.specs.declared.run_line.Call.{Call}
-use Rattle.dmlw_script.specs.declared.run_line.Call.TheVariants as calls
+use Rattle.dmlw_script.specs.declared.run_line.RunCall.{RunCall}
+use Rattle.dmlw_script.specs.declared.run_line.RunCall.TheVariants as calls
 use Rattle.dmlw_script.specs.Words.{byte_of, byte_text, id_of_word, is_line_text, letters_of}
 use Rattle.dmlw_script.specs.LineMeaning.{LineMeaning}
 use Rattle.dmlw_script.specs.LineMeaning as parsed_lines
@@ -111,7 +111,7 @@ step_fields steps.Close = line_with (codes "close") []
 step_fields (steps.Read first count) = line_with (codes "r") (number first ∷ number count ∷ [])
 step_fields steps.Turn = line_with (codes "turn") []
 step_fields (steps.Mark text) = line_with (codes "mark") (Text text ∷ [])
-step_fields (steps.At moment) = line_with (codes "at") (number moment ∷ [])
+step_fields (steps.At time) = line_with (codes "at") (number time ∷ [])
 step_fields (steps.Message over layer text) =
     line_with (codes "message") (One (Given (disk_word over)) ∷ number layer ∷ Text text ∷ [])
 
@@ -130,7 +130,7 @@ fields_of (parsed_lines.Crash picks) = line_with (codes "crash") (map number pic
 
 -- The fields of a seat's call, without the seat. They are those of a recorder's line, but a request
 -- has no id.
-abbrev pub call_fields : Call → Fields
+abbrev pub call_fields : RunCall → Fields
 call_fields (calls.Submit submission) =
     line_with (submission_word submission) (submission_fields submission)
 call_fields (calls.Mark text) = line_with (codes "mark") (Text text ∷ [])
@@ -197,7 +197,7 @@ option_text given text = if given then text else []
 -- The canonical text of a table line that asks for a layer. A table line that asks for none is
 -- never printed.
 abbrev pub table_text : Result LayerSpec TableError → List ℕ
-table_text (Ok spec) = table_texts.line_text spec
+table_text (Ok spec) = table_texts.layer_text spec
 table_text (Err error) = []
 
 -- the canonical text of a field, with the space before it; empty for an option that is not given
@@ -214,5 +214,5 @@ text_after (field ∷ []) = field_text field
 text_after (field ∷ next ∷ fields) = field_text field ++ text_after (next ∷ fields)
 
 -- the canonical line with these fields
-abbrev pub text_of : Fields → List ℕ
-text_of fields = word_text fields.first ++ text_after fields.others
+abbrev pub fields_text : Fields → List ℕ
+fields_text fields = word_text fields.first ++ text_after fields.others

@@ -17,7 +17,7 @@ use Rattle.dmlw_script.specs.declared.line.BodyLine.{BodyLine}
 use Rattle.dmlw_script.specs.declared.line.BodyLine.TheVariants as body_lines
 use Rattle.dmlw_script.specs.Grammar.{ParsesAs, AreLinesOf}
 use Rattle.dmlw_script.specs.Words.{same_name, is_ascii_line, unskipped, lines_of}
-use Rattle.dmlw_script.specs.Plans.{disk_of, is_disk_size, is_ended, is_log_disk_size, is_within}
+use Rattle.dmlw_script.specs.Plans.{named_disk, is_disk_size, is_ended, is_log_disk_size, layer_is_within}
 use Rattle.dmlw_script.specs.Plans.{least_sectors, time_at_step, request_of, step_answer}
 use Rattle.dmlw_script.specs.Plans.{submission_answer, top_of, Disk, IsInTime, ScriptValue}
 use Rattle.layer_table.specs.declared.layer_spec.LayerSpec.{LayerSpec}
@@ -48,11 +48,11 @@ bare sectors = record { sectors = sectors; layers = [] }
 abbrev pub with_layer : Disk → LayerSpec → Disk
 with_layer disk spec = record disk { layers = disk.layers ++ spec ∷ [] }
 
--- the time after a line of the body, if the time before it is `moment`
-abbrev pub moment_at_line : ℕ → BodyLine → ℕ
-moment_at_line moment (body_lines.Submit name submission) = moment
-moment_at_line moment (body_lines.Complete name) = moment
-moment_at_line moment (body_lines.Step step) = time_at_step moment step
+-- the time after a line of the body, if the time before it is `time`
+abbrev pub time_at_line : ℕ → BodyLine → ℕ
+time_at_line time (body_lines.Submit name submission) = time
+time_at_line time (body_lines.Complete name) = time
+time_at_line time (body_lines.Step step) = time_at_step time step
 
 -- How much was read after one more line with this meaning. The result is `at_end` after a crash,
 -- after a line that asks for no layer, and after a kind of line that can't follow.
@@ -65,9 +65,9 @@ next (in_head data_disk log_disk) (parsed_lines.Head (head_lines.Layer disks.Dat
 next (in_head data_disk log_disk) (parsed_lines.Head (head_lines.Layer disks.Log (Ok spec))) =
     in_head data_disk (with_layer log_disk spec)
 next (in_head data_disk log_disk) (parsed_lines.Body line) =
-    in_body data_disk log_disk (moment_at_line 0 line)
-next (in_body data_disk log_disk moment) (parsed_lines.Body line) =
-    in_body data_disk log_disk (moment_at_line moment line)
+    in_body data_disk log_disk (time_at_line 0 line)
+next (in_body data_disk log_disk time) (parsed_lines.Body line) =
+    in_body data_disk log_disk (time_at_line time line)
 next _ _ = at_end
 
 -- how much was read, starting from `prefix`, after lines with these meanings
@@ -75,11 +75,11 @@ abbrev pub prefix_after : Prefix → List LineMeaning → Prefix
 prefix_after prefix [] = prefix
 prefix_after prefix (s ∷ ss) = prefix_after (next prefix s) ss
 
--- if the line of the body sets the time, the new time is at least `moment`
+-- if the line of the body sets the time, the new time is at least `time`
 abbrev pub ComesInTime : ℕ → BodyLine → Type 0
-ComesInTime moment (body_lines.Submit name submission) = Unit {0}
-ComesInTime moment (body_lines.Complete name) = Unit {0}
-ComesInTime moment (body_lines.Step step) = IsInTime moment step
+ComesInTime time (body_lines.Submit name submission) = Unit {0}
+ComesInTime time (body_lines.Complete name) = Unit {0}
+ComesInTime time (body_lines.Step step) = IsInTime time step
 
 -- A line with this meaning may follow, as far as its own words decide. First come the data disk and
 -- the log disk, each of an allowed size; the log disk has room for one log sector. Then come up to
@@ -98,9 +98,9 @@ MayFollowInScript (in_head data_disk log_disk) (parsed_lines.Head
     length log_disk.layers < 4
 MayFollowInScript (in_head data_disk log_disk) (parsed_lines.Body line) = ComesInTime 0 line
 MayFollowInScript (in_head data_disk log_disk) (parsed_lines.Crash picks) = Unit {0}
-MayFollowInScript (in_body data_disk log_disk moment)
-    (parsed_lines.Body line) = ComesInTime moment line
-MayFollowInScript (in_body data_disk log_disk moment) (parsed_lines.Crash picks) = Unit {0}
+MayFollowInScript (in_body data_disk log_disk time)
+    (parsed_lines.Body line) = ComesInTime time line
+MayFollowInScript (in_body data_disk log_disk time) (parsed_lines.Crash picks) = Unit {0}
 MayFollowInScript _ _ = ⊥
 
 -- The line `line` has the meaning `s`, and may follow the lines `before`. Each unskipped line of
@@ -144,7 +144,7 @@ head_refusal plan (head_lines.Data sectors) = None
 head_refusal plan (head_lines.Log sectors size) = None
 head_refusal plan (head_lines.Layer over (Err error)) = Some (table_refusal error)
 head_refusal plan (head_lines.Layer over (Ok spec)) =
-    if is_within spec (top_of (disk_of over plan)) then
+    if layer_is_within spec (top_of (named_disk over plan)) then
     (if nat_le (least_sectors over plan.log_size) spec.length then None else Some BadLine)
     else Some OutOfRange
 
@@ -193,6 +193,6 @@ IsFaultOf text fault (Some line) = IsFirstFault (lines_of text) line fault.refus
 IsFaultOf text fault None = fault ≡ is_memory
 
 -- The result is the script `plan`, or memory ran out.
-abbrev pub IsReadAs : ScriptValue → Result ScriptValue Fault → Type 0
-IsReadAs plan (Ok script) = script ≡ plan
-IsReadAs plan (Err fault) = fault ≡ is_memory
+abbrev pub ReadsScript : ScriptValue → Result ScriptValue Fault → Type 0
+ReadsScript plan (Ok script) = script ≡ plan
+ReadsScript plan (Err fault) = fault ≡ is_memory

@@ -6,7 +6,7 @@ use Rattle.std.specs.List.{AllByRecursion, AllZip}
 use Rattle.dmlw_script.specs.declared.run_line.RunLine.{RunLine}
 use Rattle.dmlw_script.specs.declared.run_line.RunLine.TheVariants as run_lines
 use Rattle.dmlw_script.specs.declared.run_line.SeatCall.{SeatCall}
-use Rattle.dmlw_script.specs.Fields.{run_fields, fields_of, text_of, IsLineWith}
+use Rattle.dmlw_script.specs.Fields.{run_fields, fields_of, fields_text, IsLineWith}
 use Rattle.dmlw_script.specs.LineMeaning.{LineMeaning}
 use Rattle.dmlw_script.specs.LineMeaning as parsed_lines
 use Rattle.dmlw_script.specs.Words.{is_ascii_line, unskipped, lines_of}
@@ -49,7 +49,7 @@ pub record IsLineOf (lines : List (List ℕ)) (plan : ScriptValue) (place number
 
 -- the canonical line with this meaning
 abbrev pub line_text : LineMeaning → List ℕ
-line_text meaning = text_of (fields_of meaning)
+line_text meaning = fields_text (fields_of meaning)
 
 -- the canonical line with the meaning `s`, and a line feed
 abbrev pub ended_line : LineMeaning → List ℕ
@@ -86,7 +86,7 @@ IsRunText text plan = AreRunLines (lines_of text) plan
 
 -- the canonical line with this meaning
 abbrev pub run_line_text : RunLine → List ℕ
-run_line_text said = text_of (run_fields said)
+run_line_text said = fields_text (run_fields said)
 
 -- the meaning of the line of the number of seats
 abbrev pub seats_line : ℕ → RunLine

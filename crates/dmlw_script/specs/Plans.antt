@@ -23,7 +23,7 @@ use Rattle.dmlw_script.specs.declared.line.HeadLine.TheVariants as head_lines
 use Rattle.dmlw_script.specs.declared.line.BodyLine.{BodyLine}
 use Rattle.dmlw_script.specs.declared.line.BodyLine.TheVariants as body_lines
 use Rattle.dmlw_script.specs.Words.{is_line_text, is_id, script_id, same_name}
-use Rattle.layer_table.specs.Layers.{top_sectors, IsAllowed}
+use Rattle.layer_table.specs.Layers.{top_sectors, LayersAreAllowed}
 use Rattle.layer_table.specs.declared.layer_spec.LayerSpec.{LayerSpec}
 
 -- a disk of a script: its number of sectors, and the layers over it, the lowest first
@@ -63,20 +63,20 @@ abbrev pub top_of : Disk → ℕ
 top_of disk = top_sectors disk.sectors disk.layers
 
 -- the layer is within the device below it, which has `sectors` sectors
-abbrev pub is_within : LayerSpec → ℕ → Bool
-is_within layer sectors = nat_le (layer.offset + layer.length) sectors
+abbrev pub layer_is_within : LayerSpec → ℕ → Bool
+layer_is_within layer sectors = nat_le (layer.offset + layer.length) sectors
 
 -- The disk may be in a script. It has an allowed size and at most four layers. A table line can ask
 -- for each layer, and each is within the device below it.
 pub record IsDisk (disk : Disk) : Type 0 where
   pub size : is_disk_size disk.sectors ≡ true
   pub few : length disk.layers ≤ 4
-  pub stand : IsAllowed disk.sectors disk.layers
+  pub stand : LayersAreAllowed disk.sectors disk.layers
 
 -- the disk with this name
-abbrev pub disk_of : DiskName → ScriptValue → Disk
-disk_of disks.Data plan = plan.data_disk
-disk_of disks.Log plan = plan.log_disk
+abbrev pub named_disk : DiskName → ScriptValue → Disk
+named_disk disks.Data plan = plan.data_disk
+named_disk disks.Log plan = plan.log_disk
 
 -- the number of the request with the id `name`, if there is one: the index of `name` in `names`
 abbrev pub request_of : ScriptId → List ScriptId → Option ℕ
@@ -97,14 +97,14 @@ abbrev pub submissions : List Command → ℕ
 submissions body = count_by is_submission body
 
 -- the command ends the request with the number `request`
-abbrev pub is_end_of : ℕ → Command → Bool
-is_end_of request (commands.Submit submission) = false
-is_end_of request (commands.Complete ended) = ended == request
-is_end_of request (commands.Step step) = false
+abbrev pub ends_request : ℕ → Command → Bool
+ends_request request (commands.Submit submission) = false
+ends_request request (commands.Complete ended) = ended == request
+ends_request request (commands.Step step) = false
 
 -- one of these commands ends the request with the number `request`
 abbrev pub is_ended : ℕ → List Command → Bool
-is_ended request body = list_any (is_end_of request) body
+is_ended request body = list_any (ends_request request) body
 
 -- The result of the test of `count` sectors from sector `first` on, as for a read of them. The
 -- log's sectors have `bytes` bytes, and the data disk's top has `sectors` sectors.
@@ -134,34 +134,34 @@ WritesByte submission = Unit {0}
 -- and the number of a message's layer are below 2^64.
 abbrev pub HasLineText : Step → Type 0
 HasLineText (steps.Mark text) = is_line_text text ≡ true
-HasLineText (steps.At moment) = moment < 2 ^ 64
+HasLineText (steps.At time) = time < 2 ^ 64
 HasLineText (steps.Message over layer text) = (layer < 2 ^ 64) × (is_line_text text ≡ true)
 HasLineText step = Unit {0}
 
--- the time after a step, if the time before it is `moment`
+-- the time after a step, if the time before it is `time`
 abbrev pub time_at_step : ℕ → Step → ℕ
-time_at_step moment (steps.At later) = later
-time_at_step moment step = moment
+time_at_step time (steps.At later) = later
+time_at_step time step = time
 
--- the time after a command, if the time before it is `moment`
+-- the time after a command, if the time before it is `time`
 abbrev pub time_at : ℕ → Command → ℕ
-time_at moment (commands.Submit submission) = moment
-time_at moment (commands.Complete request) = moment
-time_at moment (commands.Step step) = time_at_step moment step
+time_at time (commands.Submit submission) = time
+time_at time (commands.Complete request) = time
+time_at time (commands.Step step) = time_at_step time step
 
--- the time after these commands, if the time before them is `moment`
+-- the time after these commands, if the time before them is `time`
 abbrev pub time_from : ℕ → List Command → ℕ
-time_from moment [] = moment
-time_from moment (command ∷ body) = time_from (time_at moment command) body
+time_from time [] = time
+time_from time (command ∷ body) = time_from (time_at time command) body
 
 -- the time after these commands: the time of the last `at`, or 0 if there is none
 abbrev pub time_after : List Command → ℕ
 time_after body = time_from 0 body
 
--- if the step is an `at`, its time is at least `moment`, the time before it
+-- if the step is an `at`, its time is at least `time`, the time before it
 abbrev pub IsInTime : ℕ → Step → Type 0
-IsInTime moment (steps.At later) = moment ≤ later
-IsInTime moment step = Unit {0}
+IsInTime time (steps.At later) = time ≤ later
+IsInTime time step = Unit {0}
 
 -- The command may follow the commands `before`, with `bytes` and `sectors` as in `range_test`. A
 -- submission's sectors pass their test, and a write writes a byte. An end is the end of a request

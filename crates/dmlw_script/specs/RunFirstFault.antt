@@ -11,7 +11,7 @@ use Rattle.dmlw_script.specs.declared.command.DiskName.TheVariants as disks
 use Rattle.dmlw_script.specs.declared.line.HeadLine.{HeadLine}
 use Rattle.dmlw_script.specs.declared.line.HeadLine.TheVariants as head_lines
 use Rattle.dmlw_script.specs.Words.{is_ascii_line, lines_of, unskipped}
-use Rattle.dmlw_script.specs.Plans.{is_disk_size, is_log_disk_size, is_within, least_sectors}
+use Rattle.dmlw_script.specs.Plans.{is_disk_size, is_log_disk_size, layer_is_within, least_sectors}
 use Rattle.dmlw_script.specs.Plans.{top_of, Disk}
 use Rattle.dmlw_script.specs.FirstFault.{bare, is_memory, test_refusal, with_layer}
 use Rattle.dmlw_script.specs.Grammar.{AreRunLines, MeansLine}
@@ -99,7 +99,7 @@ head_refusal plan (head_lines.Data sectors) = None
 head_refusal plan (head_lines.Log sectors size) = None
 head_refusal plan (head_lines.Layer over (Err error)) = Some (table_refusal error)
 head_refusal plan (head_lines.Layer over (Ok spec)) =
-    if is_within spec (top_of (run_disk over plan)) then
+    if layer_is_within spec (top_of (run_disk over plan)) then
     (if nat_le (least_sectors over plan.log_size) spec.length then None else Some BadLine)
     else Some OutOfRange
 

@@ -6,8 +6,8 @@ use Rattle.bio.specs.declared.request.SectorSize.{SectorSize}
 use Rattle.bio.specs.Requests.{bytes_of}
 use Rattle.dmlw_script.specs.declared.command.DiskName.TheVariants as disks
 use Rattle.dmlw_script.specs.declared.line.HeadLine.TheVariants as head_lines
-use Rattle.dmlw_script.specs.declared.run_line.Call.{Call}
-use Rattle.dmlw_script.specs.declared.run_line.Call.TheVariants.{Submit, Mark}
+use Rattle.dmlw_script.specs.declared.run_line.RunCall.{RunCall}
+use Rattle.dmlw_script.specs.declared.run_line.RunCall.TheVariants.{Submit, Mark}
 use Rattle.dmlw_script.specs.declared.run_line.SeatCall.{SeatCall}
 use Rattle.dmlw_script.specs.declared.run_line.RunLine.{RunLine}
 use Rattle.dmlw_script.specs.declared.run_line.RunLine.TheVariants.{Head, Seats, Body}
@@ -26,13 +26,13 @@ pub record RunPlan : Type 0 where
 
 -- The result of the test of the sectors that a call covers. The log's sectors have `bytes` bytes,
 -- and the data disk's top has `sectors` sectors. A mark always passes.
-abbrev pub call_answer : (bytes sectors : ℕ) → Call → Result (Unit {0}) BadBio
+abbrev pub call_answer : (bytes sectors : ℕ) → RunCall → Result (Unit {0}) BadBio
 call_answer bytes sectors (Submit submission) = submission_answer bytes sectors submission
 call_answer bytes sectors (Mark text) = Ok tt
 
 -- the values of a call fit in a line: a write writes a byte, and the text of a mark may be in a
 -- line
-abbrev pub FitsLine : Call → Type 0
+abbrev pub FitsLine : RunCall → Type 0
 FitsLine (Submit submission) = WritesByte submission
 FitsLine (Mark text) = is_line_text text ≡ true
 

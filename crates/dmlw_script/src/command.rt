@@ -63,7 +63,7 @@ pub enum Step {
     },
     /// Sets the time. In a script the time is 0 at first, and never decreases.
     At {
-        moment: Ms,
+        time: Ms,
     },
     /// A message to a layer over the disk `over`. Layers are counted from 1, the lowest. Reading a
     /// script doesn't check that the layer exists, or that it takes the message. In a script each

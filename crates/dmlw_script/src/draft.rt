@@ -3,7 +3,7 @@
 ghost use Rattle.std.specs.Prelude.{◌≡◌, ◌<◌, ℕ, [], Ok, OnOk, false, length, option_map};
 ghost use Rattle.bio.specs.Requests.{bytes_of};
 ghost use Rattle.dmlw_script.specs.Plans.{time_at, range_test, submission_answer};
-ghost use Rattle.dmlw_script.specs.inside.Drafts.{as_refusal, step_test, Follows};
+ghost use Rattle.dmlw_script.specs.inside.Drafts.{as_refusal, step_test, AgreesWithStep};
 
 use crate::command::{Command, Step, Submission};
 use crate::disk::DiskSpec;
@@ -25,14 +25,14 @@ pub(crate) struct BodyReader {
     has_ended: Vec<bool>,
     pub(crate) commands: Vec<Command>,
     // The time after `commands`.
-    moment: Ms,
+    time: Ms,
 }
 
 impl BodyReader {
     ghost use Rattle.dmlw_script.specs.inside.Drafts.{body_of, body_step, with_command};
     ghost use Rattle.dmlw_script.specs.inside.Drafts.{with_name};
     ghost use Rattle.dmlw_script.specs.inside.Drafts.{IsDraft};
-    ghost use Rattle.dmlw_script.specs.Plans.{is_end_of, IsPlan};
+    ghost use Rattle.dmlw_script.specs.Plans.{ends_request, IsPlan};
 
     pub(crate) fn new(alloc: Global) -> BodyReader
         ensures draft { IsDraft result }
@@ -42,7 +42,7 @@ impl BodyReader {
             names: IndexSet::new(alloc),
             has_ended: Vec::new(alloc),
             commands: Vec::new(alloc),
-            moment: Ms::new(0),
+            time: Ms::new(0),
         }
     }
 
@@ -56,7 +56,7 @@ impl BodyReader {
     ) -> Result<(), LineError>
         requires { IsDraft self.old }
         ensures draft { OnOk result (IsDraft self.new) }
-        ensures step { Follows result (body_of self.new)
+        ensures step { AgreesWithStep result (body_of self.new)
             (body_step (bytes_of log_size) sectors (body_of self.old) parsed) }
     {
         match parsed {
@@ -78,7 +78,7 @@ impl BodyReader {
     ) -> Result<(), LineError>
         requires { IsDraft self.old }
         ensures draft { OnOk result (IsDraft self.new) }
-        ensures step { Follows result (body_of self.new)
+        ensures step { AgreesWithStep result (body_of self.new)
             (body_step (bytes_of log_size) sectors (body_of self.old)
             (BodyLine.Submit name submission)) }
     {
@@ -91,7 +91,7 @@ impl BodyReader {
     fn complete(&mut self, name: ScriptId) -> Result<(), LineError>
         requires { IsDraft self.old }
         ensures draft { OnOk result (IsDraft self.new) }
-        ensures step { Follows result (body_of self.new)
+        ensures step { AgreesWithStep result (body_of self.new)
             (body_step 0 0 (body_of self.old) (BodyLine.Complete name)) }
     {
         let request = self.names.get_index_of(&name).ok_or(Refusal::BadId)?;
@@ -105,10 +105,10 @@ impl BodyReader {
     fn step(&mut self, step: Step, sectors: u64, log_size: SectorSize) -> Result<(), LineError>
         requires { IsDraft self.old }
         ensures draft { OnOk result (IsDraft self.new) }
-        ensures step { Follows result (body_of self.new)
+        ensures step { AgreesWithStep result (body_of self.new)
             (body_step (bytes_of log_size) sectors (body_of self.old) (BodyLine.Step step)) }
     {
-        check_step(&step, sectors, log_size, self.moment)?;
+        check_step(&step, sectors, log_size, self.time)?;
         self.say(Command::Step(step))
     }
 
@@ -142,7 +142,7 @@ impl BodyReader {
             names,
             has_ended: _,
             commands,
-            moment: _,
+            time: _,
         } = self;
         Script::new(data_disk, log_disk, log_size, names, commands, ending)
     }
@@ -151,7 +151,7 @@ impl BodyReader {
     fn name_next(&mut self, name: ScriptId) -> Result<(), LineError>
         requires { IsDraft self.old }
         ensures draft { OnOk result (IsDraft self.new) }
-        ensures step { Follows result (body_of self.new) (with_name (body_of self.old) name) }
+        ensures step { AgreesWithStep result (body_of self.new) (with_name (body_of self.old) name) }
     {
         if !self.names.insert(name)? {
             return Err(LineError::Refused(Refusal::BadId));
@@ -163,23 +163,22 @@ impl BodyReader {
     // Adds a line of the body that ends no request.
     fn say(&mut self, command: Command) -> Result<(), LineError>
         requires draft { IsDraft self.old }
-        requires no_end { (request : ℕ) → is_end_of request command ≡ false }
+        requires no_end { (request : ℕ) → ends_request request command ≡ false }
         ensures draft { OnOk result (IsDraft self.new) }
-        ensures step { Follows result (body_of self.new)
+        ensures step { AgreesWithStep result (body_of self.new)
             (Ok (with_command (body_of self.old) command)) }
     {
-        let moment = time_after(self.moment, &command);
+        let time = time_after(self.time, &command);
         self.commands.push(command)?;
-        self.moment = moment;
+        self.time = time;
         Ok(())
     }
 
-    // Adds the end of the request with the number `request`.
     fn end(&mut self, request: usize) -> Result<(), LineError>
         requires draft { IsDraft self.old }
         requires within { request < length self.old.names.keys }
         ensures draft { OnOk result (IsDraft self.new) }
-        ensures step { Follows result (body_of self.new)
+        ensures step { AgreesWithStep result (body_of self.new)
             (Ok (with_command (body_of self.old) (Command.Complete request))) }
     {
         self.commands.push(Command::Complete { request })?;
@@ -195,7 +194,7 @@ pub(crate) fn check_submission(
     sectors: u64,
     log_size: SectorSize,
 ) -> Result<(), LineError>
-    ensures { Follows result tt
+    ensures { AgreesWithStep result tt
         (as_refusal (submission_answer (bytes_of log_size) sectors submission)) }
 {
     match submission {
@@ -215,25 +214,25 @@ fn check_range(first: u64, count: u64, sectors: u64, log_size: SectorSize) -> Re
 }
 
 // Checks a line that names no request. A read's sectors must pass `check_range`, and an `at` must
-// not set a time before `moment`. All other lines pass.
-fn check_step(step: &Step, sectors: u64, log_size: SectorSize, moment: Ms) -> Result<(), LineError>
-    ensures { Follows result tt (step_test (bytes_of log_size) sectors moment step.now) }
+// not set a time before `time`. All other lines pass.
+fn check_step(step: &Step, sectors: u64, log_size: SectorSize, time: Ms) -> Result<(), LineError>
+    ensures { AgreesWithStep result tt (step_test (bytes_of log_size) sectors time step.now) }
 {
     match step {
         Step::Read { first, count } => Ok(check_range(*first, *count, sectors, log_size)?),
-        Step::At { moment: later } if later.milliseconds() < moment.milliseconds() => {
+        Step::At { time: later } if later.milliseconds() < time.milliseconds() => {
             Err(LineError::Refused(Refusal::BadLine))
         }
         _ => Ok(()),
     }
 }
 
-// Returns the time after a command, if the time before it is `moment`.
-fn time_after(moment: Ms, command: &Command) -> Ms
-    ensures { result ≡ time_at moment command.now }
+// Returns the time after a command, if the time before it is `time`.
+fn time_after(time: Ms, command: &Command) -> Ms
+    ensures { result ≡ time_at time command.now }
 {
     match command {
-        Command::Step(Step::At { moment: later }) => *later,
-        Command::Submit(_) | Command::Complete { .. } | Command::Step(_) => moment,
+        Command::Step(Step::At { time: later }) => *later,
+        Command::Submit(_) | Command::Complete { .. } | Command::Step(_) => time,
     }
 }

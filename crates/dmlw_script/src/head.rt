@@ -4,8 +4,8 @@ ghost use Rattle.std.specs.Prelude.{◌≡◌, List, false, ℕ};
 ghost use Rattle.bio.specs.Requests.{bytes_of};
 ghost use Rattle.dmlw_script.specs.Plans.{is_disk_size as is_a_disk_size};
 ghost use Rattle.dmlw_script.specs.Plans.{is_log_disk_size as is_a_log_disk_size};
-ghost use Rattle.dmlw_script.specs.Plans.{is_within as is_within_them};
-ghost use Rattle.dmlw_script.specs.inside.Drafts.{Follows};
+ghost use Rattle.dmlw_script.specs.Plans.{layer_is_within as is_within_them};
+ghost use Rattle.dmlw_script.specs.inside.Drafts.{AgreesWithStep};
 ghost use Rattle.dmlw_script.specs.inside.Heads.{head_step, layer_in, layer_step, stage_of};
 ghost use Rattle.dmlw_script.specs.inside.Stages as heads;
 
@@ -23,7 +23,7 @@ const MAX_LAYERS: usize = 4;
 
 /// How much of the head of a script was read, and whether a crash has ended the script.
 #[derive(Clone, Copy)]
-pub(crate) enum Part {
+pub(crate) enum HeadPart {
     /// Nothing was read. The line of the data disk comes next.
     Nothing,
     /// The line of the data disk was read. The line of the log disk comes next.
@@ -37,7 +37,7 @@ pub(crate) enum Part {
 /// The head of a script, as far as it was read.
 #[derive(Drop)]
 pub(crate) struct Head {
-    pub(crate) part: Part,
+    pub(crate) part: HeadPart,
     /// The data disk; it has 0 sectors until its line is read.
     pub(crate) data_disk: DiskSpec,
     /// The log disk; it has 0 sectors until its line is read.
@@ -51,7 +51,7 @@ impl Head {
         ensures { (picks : List ℕ) → stage_of picks result ≡ heads.Empty }
     {
         Head {
-            part: Part::Nothing,
+            part: HeadPart::Nothing,
             data_disk: DiskSpec::new(alloc, 0),
             log_disk: DiskSpec::new(alloc, 0),
             log_size: SectorSize::B512,
@@ -66,22 +66,23 @@ impl Head {
         began: bool,
     ) -> Result<(), LineError>
         ensures { (picks : List ℕ)
-            → Follows result (stage_of picks self.new)
+            → AgreesWithStep result (stage_of picks self.new)
             (head_step (stage_of picks self.old) began line) }
     {
         match (self.part, line) {
-            (Part::Nothing, HeadLine::Data { sectors }) if is_disk_size(sectors) => {
+            (HeadPart::Nothing, HeadLine::Data { sectors }) if is_disk_size(sectors) => {
                 self.data_disk = DiskSpec::new(alloc, sectors);
-                self.part = Part::Data;
+                self.part = HeadPart::Data;
                 Ok(())
             }
-            (Part::Data, HeadLine::Log { sectors, size }) if is_log_disk_size(sectors, size) => {
-                self.log_disk = DiskSpec::new(alloc, sectors);
-                self.log_size = size;
-                self.part = Part::Whole;
-                Ok(())
-            }
-            (Part::Whole, HeadLine::Layer { over, asked }) if !began => self.layer(over, asked),
+            (HeadPart::Data, HeadLine::Log { sectors, size }) if is_log_disk_size(sectors, size) =>
+                {
+                    self.log_disk = DiskSpec::new(alloc, sectors);
+                    self.log_size = size;
+                    self.part = HeadPart::Whole;
+                    Ok(())
+                }
+            (HeadPart::Whole, HeadLine::Layer { over, asked }) if !began => self.layer(over, asked),
             _ => Err(LineError::Refused(Refusal::BadLine)),
         }
     }
@@ -92,9 +93,9 @@ impl Head {
         over: DiskName,
         asked: Result<LayerSpec, TableError>,
     ) -> Result<(), LineError>
-        requires { self.old.part ≡ Part.Whole }
+        requires { self.old.part ≡ HeadPart.Whole }
         ensures { (picks : List ℕ)
-            → Follows result (stage_of picks self.new)
+            → AgreesWithStep result (stage_of picks self.new)
             (layer_in false self.old.data_disk self.old.log_disk self.old.log_size over asked) }
     {
         match over {
@@ -115,7 +116,7 @@ fn push_layer(
     asked: Result<LayerSpec, TableError>,
     least: u64,
 ) -> Result<(), LineError>
-    ensures { Follows result disk.new (layer_step least disk.old asked) }
+    ensures { AgreesWithStep result disk.new (layer_step least disk.old asked) }
 {
     if disk.layers().len() >= MAX_LAYERS {
         return Err(LineError::Refused(Refusal::BadLine));

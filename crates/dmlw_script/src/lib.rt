@@ -21,7 +21,7 @@ pub use disk::DiskSpec;
 pub use line::{recorder_forms, seat_forms};
 pub use printing::print_script;
 pub use reader::{line_of, read_script};
-pub use run_line::{Call, SeatCall};
+pub use run_line::{RunCall, SeatCall};
 pub use run_printing::print_run_script;
 pub use run_reader::read_run_script;
 pub use run_script::RunScript;

@@ -7,7 +7,7 @@ ghost use Rattle.dmlw_script.specs.Words.{is_line_text as is_a_line_text};
 ghost use Rattle.dmlw_script.specs.inside.LineParser.{body_words};
 ghost use Rattle.dmlw_script.specs.inside.LineParser.{discard_words as the_discard_words};
 ghost use Rattle.dmlw_script.specs.inside.LineParser.{disk_of_word, head_words as the_head};
-ghost use Rattle.dmlw_script.specs.inside.LineParser.{layer_of as the_layer, log_of as the_log};
+ghost use Rattle.dmlw_script.specs.inside.LineParser.{layer_meaning as the_layer, log_of as the_log};
 ghost use Rattle.dmlw_script.specs.inside.LineParser.{lone_word, message_of as the_message};
 ghost use Rattle.dmlw_script.specs.inside.LineParser.{parse_words, plain_parts};
 ghost use Rattle.dmlw_script.specs.inside.LineParser.{read_of as the_read};
@@ -209,7 +209,7 @@ fn body_words(verb: &[u8], words: &[u8]) -> Option<Line>
         })),
         b"r" => read_of(words),
         b"at" => Some(Line::Body(BodyLine::Step(Step::At {
-            moment: Ms::new(number_of(words)?),
+            time: Ms::new(number_of(words)?),
         }))),
         _ => submit_of(verb, words),
     }
@@ -295,7 +295,6 @@ pub(crate) fn message_of(words: Option<&[u8]>) -> Option<(DiskName, u64, &[u8])>
     }
 }
 
-// Returns the disk that a word names, if it names one.
 fn disk_of(word: &[u8]) -> Option<DiskName>
     ensures { result ≡ disk_of_word word.now }
 {

@@ -11,12 +11,12 @@ ghost use Rattle.dmlw_script.specs.Words.{is_skipped as is_a_skipped_line, comma
 ghost use Rattle.dmlw_script.specs.Words.{is_ascii_line as is_plain_line};
 ghost use Rattle.dmlw_script.specs.Grammar.{IsTextOf};
 ghost use Rattle.dmlw_script.specs.Plans.{ScriptValue};
-ghost use Rattle.dmlw_script.specs.FirstFault.{IsFaultOf, IsReadAs};
-ghost use Rattle.dmlw_script.specs.inside.Readers.{fault_of, read_text, Reads};
+ghost use Rattle.dmlw_script.specs.FirstFault.{IsFaultOf, ReadsScript};
+ghost use Rattle.dmlw_script.specs.inside.Readers.{fault_of, read_text, ReadsLine};
 
 use crate::command::Step;
 use crate::draft::BodyReader;
-use crate::head::{Head, Part};
+use crate::head::{Head, HeadPart};
 use crate::line::{BodyLine, HeadLine, Line, is_line_text, message_of, parse_parts};
 use crate::line_error::LineError;
 use crate::script::Script;
@@ -27,7 +27,7 @@ use std::alloc::{AllocError, Global};
 
 // A recorder's script, as far as it was read.
 #[derive(Drop)]
-struct Reader {
+struct ScriptReader {
     alloc: Global,
     head: Head,
     draft: BodyReader,
@@ -35,20 +35,20 @@ struct Reader {
     picks: Vec<u64>,
 }
 
-impl Reader {
-    ghost use Rattle.dmlw_script.specs.inside.Drafts.{Follows};
+impl ScriptReader {
+    ghost use Rattle.dmlw_script.specs.inside.Drafts.{AgreesWithStep};
     ghost use Rattle.dmlw_script.specs.inside.Readers.{body_line, finish_step, has_begun};
-    ghost use Rattle.dmlw_script.specs.inside.Readers.{line_step, nothing, progress_of};
+    ghost use Rattle.dmlw_script.specs.inside.Readers.{line_step, unread, progress_of};
     ghost use Rattle.dmlw_script.specs.inside.Readers.{parsed_step, step_if_parsed, with_head};
-    ghost use Rattle.dmlw_script.specs.inside.Readers.{Finishes, IsEarly, IsReader};
+    ghost use Rattle.dmlw_script.specs.inside.Readers.{FinishesReading, IsEarly, IsReader};
     ghost use Rattle.dmlw_script.specs.inside.Heads.{head_step};
     ghost use Rattle.dmlw_script.specs.Plans.{IsPlan};
 
-    fn new(alloc: Global) -> Reader
+    fn new(alloc: Global) -> ScriptReader
         ensures reader { IsReader result }
-        ensures empty { progress_of result ≡ nothing }
+        ensures empty { progress_of result ≡ unread }
     {
-        Reader {
+        ScriptReader {
             alloc,
             head: Head::new(alloc),
             draft: BodyReader::new(alloc),
@@ -60,7 +60,7 @@ impl Reader {
     fn read_line(&mut self, line: &[u8]) -> Result<(), LineError>
         requires { IsReader self.old }
         ensures reader { OnOk result (IsReader self.new) }
-        ensures step { Follows result (progress_of self.new)
+        ensures step { AgreesWithStep result (progress_of self.new)
             (line_step (progress_of self.old) line.now) }
     {
         if !is_ascii_line(line) {
@@ -78,7 +78,7 @@ impl Reader {
     fn read_words(&mut self, verb: &[u8], words: Option<&[u8]>) -> Result<(), LineError>
         requires { IsReader self.old }
         ensures reader { OnOk result (IsReader self.new) }
-        ensures step { Follows result (progress_of self.new)
+        ensures step { AgreesWithStep result (progress_of self.new)
             (step_if_parsed (progress_of self.old)
             (parse_parts verb.now (option_copied words.entry))) }
     {
@@ -98,7 +98,7 @@ impl Reader {
     fn read_plain(&mut self, verb: &[u8], words: Option<&[u8]>) -> Result<(), LineError>
         requires { IsReader self.old }
         ensures reader { OnOk result (IsReader self.new) }
-        ensures step { Follows result (progress_of self.new)
+        ensures step { AgreesWithStep result (progress_of self.new)
             (step_if_parsed (progress_of self.old)
             (plain_parts verb.now (option_copied words.entry))) }
     {
@@ -109,12 +109,12 @@ impl Reader {
     // Checks that the head has both disks, and that no crash ended the script. A line that takes
     // memory for its words takes it only after this test.
     fn check_head(&self) -> Result<(), Refusal>
-        ensures whole { IfOk result (λ _. self.now.head.part ≡ Part.Whole) }
+        ensures whole { IfOk result (λ _. self.now.head.part ≡ HeadPart.Whole) }
         ensures refused { IfErr result (IsEarly (progress_of self.now)) }
     {
         match self.head.part {
-            Part::Whole => Ok(()),
-            Part::Nothing | Part::Data | Part::Ended => Err(Refusal::BadLine),
+            HeadPart::Whole => Ok(()),
+            HeadPart::Nothing | HeadPart::Data | HeadPart::Ended => Err(Refusal::BadLine),
         }
     }
 
@@ -123,10 +123,10 @@ impl Reader {
     fn read_crash(&mut self, words: Option<&[u8]>) -> Result<(), LineError>
         requires { IsReader self.old }
         ensures reader { OnOk result (IsReader self.new) }
-        ensures step { Follows result (progress_of self.new)
+        ensures step { AgreesWithStep result (progress_of self.new)
             (step_if_parsed (progress_of self.old)
             (option_map parsed_lines.Crash (the_picks (option_copied words.entry)))) }
-        ensures memory { result ≡ Err LineError.Memory → self.old.head.part ≡ Part.Whole }
+        ensures memory { result ≡ Err LineError.Memory → self.old.head.part ≡ HeadPart.Whole }
     {
         self.check_head()?;
         let picks = picks_of(self.alloc, words)?;
@@ -137,13 +137,13 @@ impl Reader {
     fn end(&mut self, picks: Vec<u64>) -> Result<(), LineError>
         requires { IsReader self.old }
         ensures reader { OnOk result (IsReader self.new) }
-        ensures step { Follows result (progress_of self.new)
+        ensures step { AgreesWithStep result (progress_of self.new)
             (parsed_step (progress_of self.old) (parsed_lines.Crash picks.items)) }
     {
-        let Part::Whole = self.head.part else {
+        let HeadPart::Whole = self.head.part else {
             return Err(LineError::Refused(Refusal::BadLine));
         };
-        self.head.part = Part::Ended;
+        self.head.part = HeadPart::Ended;
         self.picks = picks;
         Ok(())
     }
@@ -153,9 +153,9 @@ impl Reader {
     fn read_mark(&mut self, text: Option<&[u8]>) -> Result<(), LineError>
         requires { IsReader self.old }
         ensures reader { OnOk result (IsReader self.new) }
-        ensures step { Follows result (progress_of self.new)
+        ensures step { AgreesWithStep result (progress_of self.new)
             (step_if_parsed (progress_of self.old) (mark_of (option_copied text.entry))) }
-        ensures memory { result ≡ Err LineError.Memory → self.old.head.part ≡ Part.Whole }
+        ensures memory { result ≡ Err LineError.Memory → self.old.head.part ≡ HeadPart.Whole }
     {
         self.check_head()?;
         match text {
@@ -172,9 +172,9 @@ impl Reader {
     fn read_message(&mut self, words: Option<&[u8]>) -> Result<(), LineError>
         requires { IsReader self.old }
         ensures reader { OnOk result (IsReader self.new) }
-        ensures step { Follows result (progress_of self.new)
+        ensures step { AgreesWithStep result (progress_of self.new)
             (step_if_parsed (progress_of self.old) (the_message (option_copied words.entry))) }
-        ensures memory { result ≡ Err LineError.Memory → self.old.head.part ≡ Part.Whole }
+        ensures memory { result ≡ Err LineError.Memory → self.old.head.part ≡ HeadPart.Whole }
     {
         self.check_head()?;
         let (over, layer, text) = message_of(words).ok_or(Refusal::BadLine)?;
@@ -190,7 +190,7 @@ impl Reader {
     fn read_parsed(&mut self, parsed: Line) -> Result<(), LineError>
         requires { IsReader self.old }
         ensures reader { OnOk result (IsReader self.new) }
-        ensures step { Follows result (progress_of self.new)
+        ensures step { AgreesWithStep result (progress_of self.new)
             (parsed_step (progress_of self.old) (as_meaning parsed)) }
     {
         match parsed {
@@ -203,7 +203,7 @@ impl Reader {
     fn read_head(&mut self, line: HeadLine) -> Result<(), LineError>
         requires { IsReader self.old }
         ensures reader { OnOk result (IsReader self.new) }
-        ensures step { Follows result (progress_of self.new)
+        ensures step { AgreesWithStep result (progress_of self.new)
             (with_head (progress_of self.old)
             (head_step (progress_of self.old).head
             (has_begun (progress_of self.old).body.body) line)) }
@@ -216,11 +216,11 @@ impl Reader {
     fn read_body(&mut self, line: BodyLine) -> Result<(), LineError>
         requires { IsReader self.old }
         ensures reader { OnOk result (IsReader self.new) }
-        ensures step { Follows result (progress_of self.new)
+        ensures step { AgreesWithStep result (progress_of self.new)
             (body_line (progress_of self.old).head (progress_of self.old) line) }
     {
         match self.head.part {
-            Part::Whole => {
+            HeadPart::Whole => {
                 let sectors = self.head.data_disk.top_sectors();
                 self.draft.read(line, sectors, self.head.log_size)
             }
@@ -231,9 +231,9 @@ impl Reader {
     // Returns the script, or `BadLine` if the text ends before the lines of both disks.
     fn finish(self) -> Result<Script, LineError>
         requires { IfOk (finish_step (progress_of self)) IsPlan }
-        ensures { Finishes result (finish_step (progress_of self)) }
+        ensures { FinishesReading result (finish_step (progress_of self)) }
     {
-        let Reader {
+        let ScriptReader {
             alloc: _,
             head,
             draft,
@@ -246,8 +246,8 @@ impl Reader {
             log_size,
         } = head;
         match part {
-            Part::Whole => { Ok(draft.into_script(data_disk, log_disk, log_size, None)) }
-            Part::Ended => { Ok(draft.into_script(data_disk, log_disk, log_size, Some(picks))) }
+            HeadPart::Whole => { Ok(draft.into_script(data_disk, log_disk, log_size, None)) }
+            HeadPart::Ended => { Ok(draft.into_script(data_disk, log_disk, log_size, Some(picks))) }
             _ => Err(LineError::Refused(Refusal::BadLine)),
         }
     }
@@ -281,7 +281,7 @@ pub fn read_script(alloc: Global, text: &[u8]) -> Result<Script, Fault>
     // If the result is a script, the text is a text of this script.
     ensures found { IfOk result (λ script. IsTextOf text.now script) }
     // If the text is a text of a script, the result is this script, or memory ran out.
-    ensures only { (plan : ScriptValue) → IsTextOf text.now plan → IsReadAs plan result }
+    ensures only { (plan : ScriptValue) → IsTextOf text.now plan → ReadsScript plan result }
     // A fault names the first line at fault, or reports that memory ran out.
     ensures fault { IfErr result (λ fault. IsFaultOf text.now fault fault.line) }
 {
@@ -290,9 +290,9 @@ pub fn read_script(alloc: Global, text: &[u8]) -> Result<Script, Fault>
 
 // Reads the lines of a text in turn, up to the first fault.
 fn read(alloc: Global, text: &[u8]) -> Result<Script, Fault>
-    ensures { Reads result (read_text text.now) }
+    ensures { ReadsLine result (read_text text.now) }
 {
-    let mut reader = Reader::new(alloc);
+    let mut reader = ScriptReader::new(alloc);
     let mut number: u64 = 1;
     let mut rest = text;
     while let Some((line, after)) = next_line(rest) {

@@ -1,6 +1,6 @@
 //! Parses a line of a run's script. The result depends only on the words of the line.
 ghost use Rattle.std.specs.Prelude.{◌≡◌, IfErr, IfOk, Some, option_copied};
-ghost use Rattle.dmlw_script.specs.inside.LineParser.{IsNoRunLine, IsUnread, call_of as the_call};
+ghost use Rattle.dmlw_script.specs.inside.LineParser.{IsNoRunLine, IsUnread, seat_call_of as the_call};
 ghost use Rattle.dmlw_script.specs.inside.LineParser.{mark_call, parse_run_line, run_head_line};
 ghost use Rattle.dmlw_script.specs.inside.LineParser.{seat_line, seat_of as the_seat};
 
@@ -14,7 +14,7 @@ use std::alloc::Global;
 
 /// The call of a seat.
 #[derive(Debug, Drop)]
-pub enum Call {
+pub enum RunCall {
     /// Submits a request. In a script its sectors are limited as those of a recorder's script are.
     Submit(Submission),
     /// Adds a mark with this text, which may be empty, to the log. In a script each byte is ASCII,
@@ -28,7 +28,7 @@ pub struct SeatCall {
     /// The seat, counted from 0. In a script it is below the number of seats.
     pub seat: u64,
     /// The call of the seat.
-    pub call: Call,
+    pub call: RunCall,
 }
 
 /// The meaning of a line of a run's script.
@@ -89,7 +89,7 @@ fn seat_of(word: &[u8]) -> Option<u64>
 
 // Parses the call of a seat: `verb` is its first word, and `words` are the other words, if there
 // are any.
-fn call_of(alloc: Global, verb: &[u8], words: Option<&[u8]>) -> Result<Call, LineError>
+fn call_of(alloc: Global, verb: &[u8], words: Option<&[u8]>) -> Result<RunCall, LineError>
     ensures said { IfOk result (λ call. the_call verb.now (option_copied words.entry) ≡ Some call) }
     ensures none { IfErr result
         (λ error. IsUnread error (the_call verb.now (option_copied words.entry))) }
@@ -98,18 +98,18 @@ fn call_of(alloc: Global, verb: &[u8], words: Option<&[u8]>) -> Result<Call, Lin
         return mark_of(alloc, words);
     }
     let submission = submission_of(verb, words).ok_or(Refusal::BadLine)?;
-    Ok(Call::Submit(submission))
+    Ok(RunCall::Submit(submission))
 }
 
 // Parses a mark with this text; None stands for a call with no space after `mark`.
-fn mark_of(alloc: Global, text: Option<&[u8]>) -> Result<Call, LineError>
+fn mark_of(alloc: Global, text: Option<&[u8]>) -> Result<RunCall, LineError>
     ensures said { IfOk result (λ call. mark_call (option_copied text.entry) ≡ Some call) }
     ensures none { IfErr result (λ error. IsUnread error (mark_call (option_copied text.entry))) }
 {
     match text {
         Some(text) if is_line_text(text) => {
             let text = shared_text(alloc, text)?;
-            Ok(Call::Mark { text })
+            Ok(RunCall::Mark { text })
         }
         _ => Err(LineError::Refused(Refusal::BadLine)),
     }

@@ -3,11 +3,11 @@ ghost use Rattle.std.specs.Prelude.{◌≡◌, ◌++◌, flat_map, map, IfOk, On
 ghost use Rattle.dmlw_script.specs.Grammar.{IsRunText, call_line, ended_run_line, run_text};
 ghost use Rattle.dmlw_script.specs.Grammar.{seats_line};
 ghost use Rattle.dmlw_script.specs.RunPlans.{run_head};
-ghost use Rattle.dmlw_script.specs.Fields.{call_fields, text_of};
+ghost use Rattle.dmlw_script.specs.Fields.{call_fields, fields_text};
 
 use crate::parts::push_value;
 use crate::printed_head::{push_disk_layers, push_disks};
-use crate::run_line::{Call, SeatCall};
+use crate::run_line::{RunCall, SeatCall};
 use crate::run_script::RunScript;
 use crate::steps::push_mark;
 use crate::submissions::{push_submission, push_word};
@@ -78,14 +78,14 @@ fn push_seat_call(out: &mut Vec<u8>, line: &SeatCall) -> Result<(), AllocError>
 }
 
 // Appends the words of a call, after its seat and a space.
-fn push_call(out: &mut Vec<u8>, call: &Call) -> Result<(), AllocError>
-    ensures { OnOk result (out.new.items ≡ out.old.items ++ text_of (call_fields call.now)) }
+fn push_call(out: &mut Vec<u8>, call: &RunCall) -> Result<(), AllocError>
+    ensures { OnOk result (out.new.items ≡ out.old.items ++ fields_text (call_fields call.now)) }
 {
     match call {
-        Call::Submit(submission) => {
+        RunCall::Submit(submission) => {
             push_word(out, *submission)?;
             push_submission(out, *submission)
         }
-        Call::Mark { text } => push_mark(out, text.as_slice()),
+        RunCall::Mark { text } => push_mark(out, text.as_slice()),
     }
 }

@@ -5,15 +5,15 @@ ghost use Rattle.bio.specs.Requests.{bytes_of};
 ghost use Rattle.dmlw_script.specs.Grammar.{IsRunText};
 ghost use Rattle.dmlw_script.specs.RunPlans.{call_answer, RunPlan};
 ghost use Rattle.dmlw_script.specs.RunFirstFault.{IsReadAsRun, IsRunFaultAt};
-ghost use Rattle.dmlw_script.specs.inside.Drafts.{as_refusal, Follows};
-ghost use Rattle.dmlw_script.specs.inside.Readers.{Reads, read_run_text};
+ghost use Rattle.dmlw_script.specs.inside.Drafts.{as_refusal, AgreesWithStep};
+ghost use Rattle.dmlw_script.specs.inside.Readers.{ReadsLine, read_run_text};
 
 use crate::draft::check_submission;
-use crate::head::{Head, Part};
+use crate::head::{Head, HeadPart};
 use crate::line::HeadLine;
 use crate::line_error::LineError;
 use crate::reader::{fault_at, is_ascii_line, is_skipped, next_line};
-use crate::run_line::{Call, RunLine, SeatCall, run_line_of};
+use crate::run_line::{RunCall, RunLine, SeatCall, run_line_of};
 use crate::run_script::RunScript;
 use bio::SectorSize;
 use refusals::{Fault, Refusal};
@@ -35,7 +35,7 @@ struct RunReader {
 impl RunReader {
     ghost use Rattle.std.specs.Prelude.{◌≡◌};
     ghost use Rattle.dmlw_script.specs.RunPlans.{IsRunPlan};
-    ghost use Rattle.dmlw_script.specs.inside.Readers.{Finishes, call_line, nothing_read};
+    ghost use Rattle.dmlw_script.specs.inside.Readers.{FinishesReading, call_line, nothing_read};
     ghost use Rattle.dmlw_script.specs.inside.Readers.{run_finish_step, run_head_step};
     ghost use Rattle.dmlw_script.specs.inside.Readers.{run_line_step, run_progress, said_step};
     ghost use Rattle.dmlw_script.specs.inside.Readers.{seats_line};
@@ -53,7 +53,7 @@ impl RunReader {
 
     // Reads the next line.
     fn read_line(&mut self, line: &[u8]) -> Result<(), LineError>
-        ensures { Follows result (run_progress self.new)
+        ensures { AgreesWithStep result (run_progress self.new)
             (run_line_step (run_progress self.old) line.now) }
     {
         if !is_ascii_line(line) {
@@ -68,7 +68,7 @@ impl RunReader {
 
     // Reads the next line, which has the meaning `said`.
     fn read_said(&mut self, said: RunLine) -> Result<(), LineError>
-        ensures { Follows result (run_progress self.new) (said_step (run_progress self.old) said) }
+        ensures { AgreesWithStep result (run_progress self.new) (said_step (run_progress self.old) said) }
     {
         match said {
             RunLine::Head(line) => self.read_head(line),
@@ -80,7 +80,7 @@ impl RunReader {
     // Reads the next line of the head, which isn't the number of seats. No layer may come before
     // the number of seats, or after a line of the body.
     fn read_head(&mut self, line: HeadLine) -> Result<(), LineError>
-        ensures { Follows result (run_progress self.new)
+        ensures { AgreesWithStep result (run_progress self.new)
             (run_head_step (run_progress self.old) line) }
     {
         let closed = self.seats.is_none() || !self.calls.is_empty();
@@ -89,11 +89,11 @@ impl RunReader {
 
     // Reads the line of the number of seats: 1 to 64, only once, and after the lines of both disks.
     fn read_seats(&mut self, count: u64) -> Result<(), LineError>
-        ensures { Follows result (run_progress self.new)
+        ensures { AgreesWithStep result (run_progress self.new)
             (seats_line (run_progress self.old).head self.old.seats (run_progress self.old) count) }
     {
         match (self.head.part, self.seats) {
-            (Part::Whole, None) if 1 <= count && count <= MAX_SEATS => {
+            (HeadPart::Whole, None) if 1 <= count && count <= MAX_SEATS => {
                 self.seats = Some(count);
                 Ok(())
             }
@@ -103,11 +103,11 @@ impl RunReader {
 
     // Reads the next line of the body. Its seat must be below the number of seats.
     fn read_call(&mut self, line: SeatCall) -> Result<(), LineError>
-        ensures { Follows result (run_progress self.new)
+        ensures { AgreesWithStep result (run_progress self.new)
             (call_line (run_progress self.old).head self.old.seats (run_progress self.old) line) }
     {
         match (self.head.part, self.seats) {
-            (Part::Whole, Some(seats)) if line.seat < seats => {
+            (HeadPart::Whole, Some(seats)) if line.seat < seats => {
                 check_call(
                     &line.call,
                     self.head.data_disk.top_sectors(),
@@ -124,7 +124,7 @@ impl RunReader {
     // number of seats.
     fn finish(self) -> Result<RunScript, LineError>
         requires { IfOk (run_finish_step (run_progress self)) IsRunPlan }
-        ensures { Finishes result (run_finish_step (run_progress self)) }
+        ensures { FinishesReading result (run_finish_step (run_progress self)) }
     {
         let RunReader {
             alloc: _,
@@ -139,7 +139,7 @@ impl RunReader {
             log_size,
         } = head;
         match (part, seats) {
-            (Part::Whole, Some(seats)) => {
+            (HeadPart::Whole, Some(seats)) => {
                 Ok(RunScript::new(data_disk, log_disk, log_size, seats, calls))
             }
             _ => Err(LineError::Refused(Refusal::BadLine)),
@@ -183,7 +183,7 @@ pub fn read_run_script(alloc: Global, text: &[u8]) -> Result<RunScript, Fault>
 
 // Reads the lines of a text in turn, up to the first fault.
 fn read_run(alloc: Global, text: &[u8]) -> Result<RunScript, Fault>
-    ensures { Reads result (read_run_text text.now) }
+    ensures { ReadsLine result (read_run_text text.now) }
 {
     let mut reader = RunReader::new(alloc);
     let mut number: u64 = 1;
@@ -203,11 +203,11 @@ fn read_run(alloc: Global, text: &[u8]) -> Result<RunScript, Fault>
 
 // Checks the sectors that a call covers, for a disk of `sectors` sectors and log sectors of the
 // size `log_size`.
-fn check_call(call: &Call, sectors: u64, log_size: SectorSize) -> Result<(), LineError>
-    ensures { Follows result tt (as_refusal (call_answer (bytes_of log_size) sectors call.now)) }
+fn check_call(call: &RunCall, sectors: u64, log_size: SectorSize) -> Result<(), LineError>
+    ensures { AgreesWithStep result tt (as_refusal (call_answer (bytes_of log_size) sectors call.now)) }
 {
     match call {
-        Call::Submit(submission) => check_submission(*submission, sectors, log_size),
-        Call::Mark { .. } => Ok(()),
+        RunCall::Submit(submission) => check_submission(*submission, sectors, log_size),
+        RunCall::Mark { .. } => Ok(()),
     }
 }

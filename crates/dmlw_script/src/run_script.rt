@@ -103,7 +103,6 @@ impl RunScript {
         self.log_size
     }
 
-    /// Returns the number of seats, 1 to 64.
     pub fn seats(&self) -> u64
         ensures seats { result ≡ self.now.seats }
         ensures some { 1 ≤ result }

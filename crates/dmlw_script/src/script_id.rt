@@ -58,7 +58,6 @@ impl fmt::Display for ScriptId {
     }
 }
 
-// Returns whether a word is an id.
 fn is_id(word: &[u8]) -> bool
     ensures { result ≡ is_an_id word.now }
 {

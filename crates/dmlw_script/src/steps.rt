@@ -1,6 +1,6 @@
 //! Prints the lines that name no request.
 ghost use Rattle.std.specs.Prelude.{◌≡◌, ◌++◌, ◌∷◌, codes, decimal, OnOk};
-ghost use Rattle.dmlw_script.specs.Fields.{step_fields, text_of};
+ghost use Rattle.dmlw_script.specs.Fields.{step_fields, fields_text};
 
 use crate::command::{DiskName, Step};
 use crate::parts::{push_sectors, push_value};
@@ -8,14 +8,14 @@ use std::alloc::AllocError;
 
 // Appends a line that names no request, without its line feed.
 pub(crate) fn push_step(out: &mut Vec<u8>, step: &Step) -> Result<(), AllocError>
-    ensures { OnOk result (out.new.items ≡ out.old.items ++ text_of (step_fields step.now)) }
+    ensures { OnOk result (out.new.items ≡ out.old.items ++ fields_text (step_fields step.now)) }
 {
     match step {
         Step::Close => out.extend_from_slice(b"close"),
         Step::Read { first, count } => push_sectors(out, b"r ", *first, *count),
         Step::Turn => out.extend_from_slice(b"turn"),
         Step::Mark { text } => push_mark(out, text.as_slice()),
-        Step::At { moment } => push_value(out, b"at ", moment.milliseconds()),
+        Step::At { time } => push_value(out, b"at ", time.milliseconds()),
         Step::Message { over, layer, text } => push_message(out, *over, *layer, text.as_slice()),
     }
 }
@@ -37,7 +37,7 @@ fn push_message(
     text: &[u8],
 ) -> Result<(), AllocError>
     ensures { OnOk result (out.new.items
-        ≡ out.old.items ++ text_of (step_fields (Step.Message over layer text.now))) }
+        ≡ out.old.items ++ fields_text (step_fields (Step.Message over layer text.now))) }
 {
     match over {
         DiskName::Data => push_valued(out, b"message data ", layer, text),

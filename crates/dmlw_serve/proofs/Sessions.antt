@@ -12,7 +12,7 @@ use Rattle.bio.specs.ContentLaws.{sector_of-gather}
 use Rattle.bio.specs.declared.event.CoreEvent.TheVariants as events
 use Rattle.bio.specs.Events.{has_no_close, is_close}
 use Rattle.bio.specs.PlaceLaws.{bool_cases}
-use Rattle.blockdev.specs.View.{Place}
+use Rattle.blockdev.specs.View.{Origin}
 use Rattle.sector_disk.specs.CandidateLaws.{content_whole, disk_lawful}
 use Rattle.layer_table.specs.StackLaws.{part_of_disk}
 use Rattle.log_format.specs.declared.entry.Entry.{Entry}
@@ -22,9 +22,9 @@ use Rattle.pending.specs.CoreState.{CoreState, added_to, closed_by}
 use Rattle.pending.specs.GrowthLaws.{none-grown}
 use Rattle.recorder.specs.Calls.{Drains, core_of, recorder_view}
 use Rattle.recorder.specs.Growth.{HasWholeLog, RecorderFrame, ReplaysToPossible}
-use Rattle.recorder.specs.RecorderView.{log_of}
+use Rattle.recorder.specs.RecorderView.{listed_entries}
 use Rattle.sector_disk.specs.declared.disk.SectorDisk.{SectorDisk}
-use Rattle.sector_disk.specs.DiskView.{Begins, shown_of}
+use Rattle.sector_disk.specs.DiskView.{PastBegins, shown_of}
 use Rattle.layer_table.specs.declared.stack.Stack.{Stack}
 use Rattle.layer_table.specs.Layers.{AreOver, disk_of, layers_of, layers_under, some_drops, stack_shown}
 use Rattle.layer_table.specs.Layers.{top_origin, top_sectors}
@@ -46,10 +46,10 @@ use Rattle.dmlw_files.specs.Files.{image_of}
 use Rattle.nbd.specs.declared.serving.Served.{Served as Ending}
 use Rattle.nbd.specs.declared.serving.Served.TheVariants.{BrokeOff, Disconnected}
 use Rattle.nbd.specs.declared.session.SessionEnd.{SessionEnd}
-use Rattle.nbd.specs.Serving.{Ends, ServerFrame}
-use Rattle.nbd.specs.Sessions.{IsBroken, IsPlayed}
-use Rattle.dmlw_serve.specs.declared.session.Served.{Served}
-use Rattle.dmlw_serve.specs.Serves.{Begun, DiskServer, FailsServing, IsFilled, IsHead, Leaves}
+use Rattle.nbd.specs.Serving.{EndsLog, ServerFrame}
+use Rattle.nbd.specs.Sessions.{IsBroken, SessionIsPlayed}
+use Rattle.dmlw_serve.specs.declared.session.ServedSession.{ServedSession}
+use Rattle.dmlw_serve.specs.Serves.{Begun, DiskServer, FailsServing, IsStackWithImage, IsOnlyHead, Leaves}
 use Rattle.dmlw_serve.specs.Serves.{Reports, file, unmade}
 
 pub file_told : (error : FileError) → IsFileError (refused_by (file_refusal error))
@@ -78,9 +78,9 @@ same_error (Err it) error other is same = ap Err (is ∙ same)
 
 pub filled : (disk : Disk) (image : List ℕ) (bare : SectorDisk) (stack : Stack)
     → length image / 512 ≡ disk.sectors
-    → Begins (length image / 512) (sector_of image) (shown_of bare)
+    → PastBegins (length image / 512) (sector_of image) (shown_of bare)
     → disk_of stack ≡ bare → layers_of stack ≡ layers_under disk.layers 0 []
-    → AreOver disk.layers (shown_of bare) (stack_shown stack) → IsFilled disk image stack
+    → AreOver disk.layers (shown_of bare) (stack_shown stack) → IsStackWithImage disk image stack
 filled disk image bare stack size begins is named over = record {
   size = size;
   holds = rw (is, ← size) begins;
@@ -90,7 +90,7 @@ filled disk image bare stack size begins is named over = record {
 
 -- What `start` fails by is what `serve` fails by.
 pub unmade_or_file : {text first : Option (List ℕ)} (head image : List ℕ) (plan : ScriptValue)
-    → MatchesContents text head → MatchesContents first image → IsTextOf head plan → IsHead plan
+    → MatchesContents text head → MatchesContents first image → IsTextOf head plan → IsOnlyHead plan
     → (fault : RunError)
     → IsFileError fault ⊎ ((length image / 512 ≡ plan.data_disk.sectors)
     × IsUnmade (bytes_of plan.log_size) plan.log_disk fault) → FailsServing text first fault
@@ -111,7 +111,7 @@ unmade_at plan image log fault error size blank is (inr refused) =
 
 pub begins : (plan : ScriptValue) (image : List ℕ) (server : DiskServer) (log store : Stack)
     (recorder : DiskRecorder) → server.recorder ≡ recorder → server.disk ≡ store
-    → IsFilled plan.data_disk image store → IsStackOf plan.log_disk log
+    → IsStackWithImage plan.data_disk image store → IsStackOf plan.log_disk log
     → IsNewOn (bytes_of plan.log_size) log recorder → Begun plan image server
 begins plan image server log store recorder made beside filled_is blank new = record {
   data_disk = rw beside filled_is;
@@ -143,10 +143,10 @@ has_close core = elim (bool_cases (has_no_close core.events)) [
 ]
 
 -- When recording was closed and logging didn't end, the whole completion list is placed.
-pub all_placed : (now : ℕ) (last ended : DiskServer) → Ends now last ended
+pub all_placed : (now : ℕ) (last ended : DiskServer) → EndsLog now last ended
     → ended.recorder.end ≡ None
     → (has_no_close (core_of ended.recorder).events ≡ false)
-    × (ended.recorder.store.placed ≡ length (log_of (core_of ended.recorder)))
+    × (ended.recorder.store.placed ≡ length (listed_entries (core_of ended.recorder)))
 all_placed now last ended ends on = by_end ends.closed.recorder.end refl
   where
     closed : has_no_close (core_of ends.closed.recorder).events ≡ false
@@ -161,7 +161,7 @@ all_placed now last ended ends on = by_end ends.closed.recorder.end refl
     by_answer : (answer : Result Unit End) → ends.closed.recorder.end ≡ None
         → Drains answer ends.closed.recorder ended.recorder
         → (has_no_close (core_of ended.recorder).events ≡ false)
-        × (ended.recorder.store.placed ≡ length (log_of (core_of ended.recorder)))
+        × (ended.recorder.store.placed ≡ length (listed_entries (core_of ended.recorder)))
     by_answer (Ok done) still drained =
         let did = drained.logging still in (ap has_no_close did.0.events ∙ closed, did.1)
     by_answer (Err cause) still drained =
@@ -169,7 +169,7 @@ all_placed now last ended ends on = by_end ends.closed.recorder.end refl
 
     by_end : (end : Option End) → ends.closed.recorder.end ≡ end
         → (has_no_close (core_of ended.recorder).events ≡ false)
-        × (ended.recorder.store.placed ≡ length (log_of (core_of ended.recorder)))
+        × (ended.recorder.store.placed ≡ length (listed_entries (core_of ended.recorder)))
     by_end None is = by_answer ends.empties.0 is ends.empties.1
     by_end (Some cause) is =
         absurd (let both = sym ((ends.empties.1.ended cause is).1.end ∙ is) ∙ on in cc)
@@ -183,24 +183,24 @@ log_size bytes disk begun ended new goes =
 
 log_origin : (bytes : ℕ) (disk : Disk) (begun ended : DiskRecorder) → IsNew bytes disk begun
     → RecorderFrame (recorder_view begun) (recorder_view ended)
-    → (stack_shown ended.store.device).place.origin ≡ top_origin 0 disk.layers
+    → (stack_shown ended.store.device).origin.sector ≡ top_origin 0 disk.layers
 log_origin bytes disk begun ended new goes =
-    ap (λ (place : Place). place.origin)
+    ap (λ (place : Origin). place.origin)
     (goes.place ∙ new.begun.made.place ∙ new.blank.over.place)
 
 -- What the log's device holds now: the part of its disk that the layers show.
 held_now : (device : Stack) → (seen : Content) × (stack_shown device).crash seen
     × ((sector : ℕ) → seen sector
-    ≡ (shown_of (disk_of device)).content ((stack_shown device).place.origin + sector))
+    ≡ (shown_of (disk_of device)).content ((stack_shown device).origin.sector + sector))
 held_now device =
     (part_of_disk device).crash (shown_of (disk_of device)).content
     (disk_lawful (disk_of device)).current
 
 -- A log that the device holds, the image of its disk has, seen through the layers.
 in_image : (disk : Disk) (device : Stack) (seen : Content)
-    → (stack_shown device).place.origin ≡ top_origin 0 disk.layers
+    → (stack_shown device).origin.sector ≡ top_origin 0 disk.layers
     → ((sector : ℕ) → seen sector
-    ≡ (shown_of (disk_of device)).content ((stack_shown device).place.origin + sector))
+    ≡ (shown_of (disk_of device)).content ((stack_shown device).origin.sector + sector))
     → (bytes : ℕ) (es : List Entry) → 0 < log_sectors bytes (stack_shown device).size
     → IsLogOf (stack_shown device).size seen bytes es
     → IsLogOf (stack_shown device).size (seen_on disk (image_of (disk_of device))) bytes es
@@ -217,7 +217,7 @@ in_image disk device seen origin looks bytes es some is =
 
 -- What each content that a crash may leave replays to, the image does.
 replays_from : (disk : Disk) (recorder : DiskRecorder)
-    → (stack_shown recorder.store.device).place.origin ≡ top_origin 0 disk.layers
+    → (stack_shown recorder.store.device).origin.sector ≡ top_origin 0 disk.layers
     → ((left : Content) → (stack_shown recorder.store.device).crash left
     → ReplaysToPossible (recorder_view recorder) (recorder_view recorder) left)
     → ReplaysToPossible (recorder_view recorder) (recorder_view recorder)
@@ -232,28 +232,28 @@ replays_from disk recorder origin replays =
       most = all.most;
       log =
           in_image disk recorder.store.device seen.0 origin seen.2
-          (core_of recorder).sector_bytes (take all.count (log_of (core_of recorder))) all.some
+          (core_of recorder).sector_bytes (take all.count (listed_entries (core_of recorder))) all.some
           all.log;
       acknowledged = all.acknowledged;
       possible = all.possible;
     }
 
 whole_in : (bytes : ℕ) (disk : Disk) (recorder : DiskRecorder)
-    → (stack_shown recorder.store.device).place.origin ≡ top_origin 0 disk.layers
+    → (stack_shown recorder.store.device).origin.sector ≡ top_origin 0 disk.layers
     → (stack_shown recorder.store.device).size ≡ top_of disk
     → (core_of recorder).sector_bytes ≡ bytes
     → 0 < log_sectors (core_of recorder).sector_bytes (stack_shown recorder.store.device).size
     → HasWholeLog (recorder_view recorder)
     → IsLogOf (top_of disk) (seen_on disk (image_of (disk_of recorder.store.device))) bytes
-    (log_of (core_of recorder))
+    (listed_entries (core_of recorder))
 whole_in bytes disk recorder origin size same some whole =
     let seen = held_now recorder.store.device in
     let image = seen_on disk (image_of (disk_of recorder.store.device)) in
-    subst (λ (n : ℕ). IsLogOf (top_of disk) image n (log_of (core_of recorder))) same
-    (subst (λ (n : ℕ). IsLogOf n image (core_of recorder).sector_bytes (log_of (core_of recorder)))
+    subst (λ (n : ℕ). IsLogOf (top_of disk) image n (listed_entries (core_of recorder))) same
+    (subst (λ (n : ℕ). IsLogOf n image (core_of recorder).sector_bytes (listed_entries (core_of recorder)))
     size
     (in_image disk recorder.store.device seen.0 origin seen.2 (core_of recorder).sector_bytes
-    (log_of (core_of recorder)) some (whole.crash seen.0 seen.1)))
+    (listed_entries (core_of recorder)) some (whole.crash seen.0 seen.1)))
 
 none_lied : (bytes : ℕ) (disk : Disk) (begun ended : DiskRecorder) → IsNew bytes disk begun
     → RecorderFrame (recorder_view begun) (recorder_view ended)
@@ -272,23 +272,23 @@ if_ok : {T E : Type 0} (P : T → Type 0) (result : Result T E) (value : T) → 
     → result ≡ Ok value → P value
 if_ok P result value holds is = rw is at holds
 
-pub leaves : (script : ScriptValue) (first : List ℕ) (begun ended : DiskServer) (served : Served)
+pub leaves : (script : ScriptValue) (first : List ℕ) (begun ended : DiskServer) (served : ServedSession)
     (how : Result Ending Refusal)
     (heard_from heard_to said_from said_to : Option (List ℕ)) → Begun script first begun
     → Reports ended how served
     → ServerFrame begun ended
     → (how ≡ Ok Disconnected → (taken out : List ℕ) × Consumes heard_from heard_to taken
     × Appends said_from said_to out
-    × ((now : ℕ) × (last : DiskServer) × IsPlayed taken out begun last × Ends now last ended))
+    × ((now : ℕ) × (last : DiskServer) × SessionIsPlayed taken out begun last × EndsLog now last ended))
     → ((why : SessionEnd) → how ≡ Ok (BrokeOff why) → (now : ℕ) × (last : DiskServer)
-    × IsBroken heard_from said_from begun last × Ends now last ended)
+    × IsBroken heard_from said_from begun last × EndsLog now last ended)
     → IfOk how (λ told. (now : ℕ) × (last : DiskServer) × ServerFrame begun last
-    × Ends now last ended)
+    × EndsLog now last ended)
     → ((stack_shown ended.recorder.store.device).lies ≡ 0 → (left : Content)
     → (stack_shown ended.recorder.store.device).crash left
     → ReplaysToPossible (recorder_view ended.recorder) (recorder_view ended.recorder) left)
     → (ended.recorder.end ≡ None → has_no_close (core_of ended.recorder).events ≡ false
-    → ended.recorder.store.placed ≡ length (log_of (core_of ended.recorder))
+    → ended.recorder.store.placed ≡ length (listed_entries (core_of ended.recorder))
     → (stack_shown ended.recorder.store.device).lies ≡ 0
     → HasWholeLog (recorder_view ended.recorder))
     → Leaves script begun served (image_of (disk_of ended.recorder.store.device)) heard_from

@@ -1,8 +1,8 @@
 -- How a request changes the counts of a client's requests.
 use Rattle.std.specs.Prelude.{ℕ, Bool, if◌then◌else◌}
 use Rattle.blockdev.specs.OwnCounts.{one_more}
-use Rattle.nbd.specs.declared.wire.Command.{Command}
-use Rattle.nbd.specs.declared.wire.Command.TheVariants as commands
+use Rattle.nbd.specs.declared.wire.RequestKind.{RequestKind}
+use Rattle.nbd.specs.declared.wire.RequestKind.TheVariants as commands
 use Rattle.dmlw_serve.specs.declared.counts.Counts.{Counts}
 
 -- the counts before the first request
@@ -22,7 +22,7 @@ after_change fua long counts = record counts {
 
 -- The counts after a request that asks for this, by whether it has FUA, and whether it is too long
 -- for one entry.
-abbrev pub counts_after : Command → Bool → Bool → Counts → Counts
+abbrev pub counts_after : RequestKind → Bool → Bool → Counts → Counts
 counts_after commands.Read fua long counts = record counts { reads = one_more counts.reads }
 counts_after commands.Write fua long counts =
     after_change fua long (record counts { writes = one_more counts.writes })

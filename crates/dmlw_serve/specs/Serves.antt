@@ -10,16 +10,16 @@ use Rattle.refusals.specs.declared.run_error.RunError.TheVariants.{Refused}
 use Rattle.refusals.specs.Errors.{IsFileError}
 use Rattle.bio.specs.Content.{sector_of}
 use Rattle.bio.specs.Requests.{bytes_of}
-use Rattle.sector_disk.specs.DiskView.{Begins, shown_of}
+use Rattle.sector_disk.specs.DiskView.{PastBegins, shown_of}
 use Rattle.layer_table.specs.declared.stack.Stack.{Stack}
 use Rattle.layer_table.specs.Layers.{AreOver, disk_of, layers_of, layers_under, on_stack}
 use Rattle.layer_table.specs.Layers.{some_drops, stack_shown}
 use Rattle.log_format.specs.LogOf.{IsLogOf, status_of}
 use Rattle.log_store.specs.Calls.{store_of}
-use Rattle.log_store.specs.Store.{entries_of}
+use Rattle.log_store.specs.Store.{store_entries}
 use Rattle.recorder.specs.Calls.{core_of, recorder_view}
 use Rattle.recorder.specs.Growth.{ReplaysToPossible}
-use Rattle.recorder.specs.RecorderView.{log_of}
+use Rattle.recorder.specs.RecorderView.{listed_entries}
 use Rattle.dmlw_script.specs.FirstFault.{IsFaultOf}
 use Rattle.dmlw_script.specs.Grammar.{IsLineOf, IsTextOf}
 use Rattle.dmlw_script.specs.Plans.{Disk, ScriptValue, top_of}
@@ -30,45 +30,45 @@ use Rattle.nbd.specs.declared.server.Server.{Server}
 use Rattle.nbd.specs.declared.serving.Served.{Served as Ending}
 use Rattle.nbd.specs.declared.serving.Served.TheVariants.{BrokeOff, Disconnected}
 use Rattle.nbd.specs.declared.session.SessionEnd.{SessionEnd}
-use Rattle.nbd.specs.Serving.{Ends, ServerFrame}
-use Rattle.nbd.specs.Sessions.{IsBroken, IsPlayed}
-use Rattle.dmlw_serve.specs.declared.session.Served.{Served}
+use Rattle.nbd.specs.Serving.{EndsLog, ServerFrame}
+use Rattle.nbd.specs.Sessions.{IsBroken, SessionIsPlayed}
+use Rattle.dmlw_serve.specs.declared.session.ServedSession.{ServedSession}
 
 -- A server over two stacks: one for the data, and one for the log.
 abbrev pub DiskServer : Type 0
 DiskServer = Server Stack Stack on_stack on_stack
 
 -- The script is only a head: no line follows it.
-pub record IsHead (script : ScriptValue) : Type 0 where
+pub record IsOnlyHead (script : ScriptValue) : Type 0 where
   pub commands : script.commands ≡ []
   pub ending : script.ending ≡ None
 
 -- `stack` is a disk that holds `image`, under the layers of `disk`. The image is as large as the
 -- disk. Each layer is loaded at time 0, and wasn't called yet.
-pub record IsFilled (disk : Disk) (image : List ℕ) (stack : Stack) : Type 0 where
+pub record IsStackWithImage (disk : Disk) (image : List ℕ) (stack : Stack) : Type 0 where
   pub size : length image / 512 ≡ disk.sectors
-  pub holds : Begins disk.sectors (sector_of image) (shown_of (disk_of stack))
+  pub holds : PastBegins disk.sectors (sector_of image) (shown_of (disk_of stack))
   pub layers : layers_of stack ≡ layers_under disk.layers 0 []
   pub over : AreOver disk.layers (shown_of (disk_of stack)) (stack_shown stack)
 
 -- `server` is as a session begins: the data disk holds `first`, and the log is new and empty, each
 -- under the layers that the script names.
 pub record Begun (script : ScriptValue) (first : List ℕ) (server : DiskServer) : Type 0 where
-  pub data_disk : IsFilled script.data_disk first server.disk
+  pub data_disk : IsStackWithImage script.data_disk first server.disk
   pub log_disk : IsNew (bytes_of script.log_size) script.log_disk server.recorder
 
 -- A client that disconnected sent `taken`, and `out` was sent back. Its requests change the server
 -- from `begun` to `last`, and the close of recording leaves `ended`.
 pub record IsHeard (taken out : List ℕ) (begun ended : DiskServer) : Type 0 where
   pub last : DiskServer
-  pub played : IsPlayed taken out begun last
+  pub played : SessionIsPlayed taken out begun last
   pub now : ℕ
-  pub closed : Ends now last ended
+  pub closed : EndsLog now last ended
 
 -- What is reported of a session that left the server `server`: how it ended, the log's status, and
 -- the lies of the layers.
 pub record Reports (server : DiskServer) (how : Result Ending Refusal)
-    (served : Served) : Type 0 where
+    (served : ServedSession) : Type 0 where
   pub end : served.end ≡ how
   pub counted : IsCounted served.status server.recorder
   pub data_lies : served.lies.data_disk ≡ (stack_shown server.disk).lies
@@ -76,12 +76,12 @@ pub record Reports (server : DiskServer) (how : Result Ending Refusal)
   -- unless a layer of the log lied, the status is that of a log of the placed entries
   pub tells : served.lies.log_disk ≡ 0
       → served.status ≡ status_of (core_of server.recorder).sector_bytes
-      (entries_of (store_of server.recorder.store)) server.recorder.end
+      (store_entries (store_of server.recorder.store)) server.recorder.end
 
 -- What a session of `script` leaves that began with the server `begun`: the image `image` of the
 -- log's disk, and what is reported of it. From its beginning to its end the server changed only as
 -- its own calls change it. So what `ServerFrame` says of a crash holds of the whole session.
-pub record Leaves (script : ScriptValue) (begun : DiskServer) (served : Served) (image : List ℕ)
+pub record Leaves (script : ScriptValue) (begun : DiskServer) (served : ServedSession) (image : List ℕ)
     (heard_from heard_to said_from said_to : Option (List ℕ)) : Type 0 where
   pub ended : DiskServer
   pub goes : ServerFrame begun ended
@@ -101,10 +101,10 @@ pub record Leaves (script : ScriptValue) (begun : DiskServer) (served : Served) 
   pub whole : served.lies.log_disk ≡ 0 → (how : Ending) → served.end ≡ Ok how
       → served.status.end ≡ None →
       IsLogOf (top_of script.log_disk) (seen_on script.log_disk image) (bytes_of script.log_size)
-      (log_of (core_of ended.recorder))
+      (listed_entries (core_of ended.recorder))
   -- however the session ended, recording was closed at last, unless this was refused
   pub closed : IfOk served.end (λ how. (now : ℕ) × (last : DiskServer) × ServerFrame begun last
-      × Ends now last ended)
+      × EndsLog now last ended)
   -- If the client disconnected, its bytes are those of a session. What the session asks for was
   -- done, and then recording was closed.
   pub heard : served.end ≡ Ok Disconnected → (taken out : List ℕ)
@@ -112,15 +112,15 @@ pub record Leaves (script : ScriptValue) (begun : DiskServer) (served : Served) 
       × IsHeard taken out begun ended
   -- If the session broke off, what was asked for up to there was done. Then recording was closed.
   pub broken : (why : SessionEnd) → served.end ≡ Ok (BrokeOff why) → (now : ℕ)
-      × (last : DiskServer) × IsBroken heard_from said_from begun last × Ends now last ended
+      × (last : DiskServer) × IsBroken heard_from said_from begun last × EndsLog now last ended
 
 -- A session over the head `text` and the first content `first` left the image `image` of the log's
 -- disk.
-pub record IsServed (text first : List ℕ) (served : Served) (image : List ℕ)
+pub record LeavesImage (text first : List ℕ) (served : ServedSession) (image : List ℕ)
     (heard_from heard_to said_from said_to : Option (List ℕ)) : Type 0 where
   pub script : ScriptValue
   pub spelled : IsTextOf text script
-  pub head : IsHead script
+  pub head : IsOnlyHead script
   pub begun : DiskServer
   pub begins : Begun script first begun
   pub leaves : Leaves script begun served image heard_from heard_to said_from said_to
@@ -142,6 +142,6 @@ pub data FailsServing (text first : Option (List ℕ)) : RunError → Type 0 whe
       (Refused (record { line = Some line; refusal = refusals.BadLine }))
   unmade : (head image : List ℕ) (script : ScriptValue) (fault : RunError)
       → MatchesContents text head → MatchesContents first image → IsTextOf head script
-      → IsHead script → length image / 512 ≡ script.data_disk.sectors
+      → IsOnlyHead script → length image / 512 ≡ script.data_disk.sectors
       → IsUnmade (bytes_of script.log_size) script.log_disk fault
       → FailsServing text first fault

@@ -5,7 +5,7 @@ ghost use Rattle.nbd.specs.Wire.{command_of, has_fua_flag};
 ghost use Rattle.dmlw_serve.specs.Counts.{after_change, counts_after, longest, none};
 
 use bio::{MAX_REQUEST_SECTORS, SECTOR_BYTES};
-use nbd::{Command, Header};
+use nbd::{RequestHeader, RequestKind};
 use std::fmt;
 use std::fmt::{Display, Formatter, Write};
 
@@ -39,27 +39,27 @@ impl Counts {
     }
 
     /// Counts a request. One that the server doesn't offer isn't counted.
-    pub fn add(&mut self, header: &Header)
+    pub fn add(&mut self, header: &RequestHeader)
         ensures { self.new ≡ counts_after (command_of header.now.kind) (has_fua_flag header.now)
             (nat_lt longest header.now.length) self.old }
     {
         match header.command() {
-            Command::Read => self.reads = after(self.reads),
-            Command::Write => {
+            RequestKind::Read => self.reads = after(self.reads),
+            RequestKind::Write => {
                 self.writes = after(self.writes);
                 self.add_change(header);
             }
-            Command::Flush => self.flushes = after(self.flushes),
-            Command::Trim => {
+            RequestKind::Flush => self.flushes = after(self.flushes),
+            RequestKind::Trim => {
                 self.trims = after(self.trims);
                 self.add_change(header);
             }
-            Command::Disconnect | Command::Other => {}
+            RequestKind::Disconnect | RequestKind::Other => {}
         }
     }
 
     // Counts the FUA and the parts of a write or a trim.
-    fn add_change(&mut self, header: &Header)
+    fn add_change(&mut self, header: &RequestHeader)
         ensures { self.new ≡ after_change (has_fua_flag header.now)
             (nat_lt longest header.now.length) self.old }
     {

@@ -6,7 +6,7 @@
 #![tactic(auto)]
 
 pub use counts::Counts;
-pub use session::{ServeNames, Served, print_session, serve};
+pub use session::{ServeNames, ServedSession, print_session, serve};
 pub use surroundings::Surroundings;
 pub use words::{Asked, read_words};
 

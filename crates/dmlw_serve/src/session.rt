@@ -10,7 +10,7 @@ ghost use Rattle.dmlw_script.specs.Grammar.{IsLineOf, IsTextOf};
 ghost use Rattle.dmlw_script.specs.Plans.{IsDisk, ScriptValue};
 ghost use Rattle.dmlw_script.specs.Words.{lines_of};
 ghost use Rattle.script_runner.specs.DiskRun.{IsUnmade};
-ghost use Rattle.dmlw_serve.specs.Serves.{Begun, FailsServing, IsFilled, IsHead, IsServed, Reports};
+ghost use Rattle.dmlw_serve.specs.Serves.{Begun, FailsServing, IsStackWithImage, IsOnlyHead, LeavesImage, Reports};
 
 use crate::counts::Counts;
 use bio::{SECTOR_BYTES, Status};
@@ -43,7 +43,7 @@ pub struct ServeNames<'a> {
 
 /// What a session leaves besides its log.
 #[derive(Clone, Copy, Debug)]
-pub struct Served {
+pub struct ServedSession {
     /// The log's status.
     pub status: Status,
     /// The lies of the layers.
@@ -64,11 +64,11 @@ pub fn serve<F: Files, I: Read, O: Write, H: Host>(
     input: &mut I,
     output: &mut O,
     host: &mut H,
-) -> Result<Served, RunError>
+) -> Result<ServedSession, RunError>
     ensures served { IfOk result (λ served. (text first image : List ℕ)
         × MatchesContents (F.contents files.old names.entry.head.now) text
         × MatchesContents (F.contents files.old names.entry.first.now) first
-        × IsServed text first served image (I.remaining input.old) (I.remaining input.new)
+        × LeavesImage text first served image (I.remaining input.old) (I.remaining input.new)
         (O.contents output.old) (O.contents output.new)
         × MatchesContents (F.contents files.new names.entry.log.now) image) }
     ensures faults { IfErr result (FailsServing (F.contents files.old names.entry.head.now)
@@ -97,7 +97,7 @@ fn begin<F: Files>(
     ensures begun { IfOk result (λ server. (text first : List ℕ)
         × MatchesContents (F.contents files.old names.entry.head.now) text
         × MatchesContents (F.contents files.old names.entry.first.now) first
-        × ((script : ScriptValue) × IsTextOf text script × IsHead script
+        × ((script : ScriptValue) × IsTextOf text script × IsOnlyHead script
         × Begun script first server)) }
     ensures faults { IfErr result (FailsServing (F.contents files.old names.entry.head.now)
         (F.contents files.old names.entry.first.now)) }
@@ -117,7 +117,7 @@ fn begin<F: Files>(
 fn read_head<F: Files>(alloc: Global, name: &str, files: &mut F) -> Result<Script, RunError>
     ensures read { IfOk result (λ script. (text : List ℕ)
         × MatchesContents (F.contents files.old name.now) text × IsTextOf text script
-        × IsHead script) }
+        × IsOnlyHead script) }
     ensures faults { (first : Option (List ℕ))
         → IfErr result (FailsServing (F.contents files.old name.now) first) }
     ensures kept { KeepsFiles (F.contents files.old) (F.contents files.new) }
@@ -139,7 +139,7 @@ fn is_read<F: Files>(files: &F, names: ServeNames) -> bool
 // Refuses a script that has more than a head, as a bad line at the first line after it.
 fn check_head(text: &[u8], script: &Script) -> Result<(), RunError>
     requires { IsTextOf text.now script.now }
-    ensures head { OnOk result (IsHead script.now) }
+    ensures head { OnOk result (IsOnlyHead script.now) }
     ensures longer { IfErr result (λ fault. (line : ℕ)
         × (fault ≡ Refused (record { line = Some line; refusal = refusals.BadLine }))
         × IsLineOf (lines_of text.now) script.now 0 line) }
@@ -175,7 +175,7 @@ fn start(alloc: Global, script: &Script, first: Image) -> Result<Server<Stack, S
 fn filled_stack(alloc: Global, disk: &DiskSpec, image: Image) -> Result<Stack, RunError>
     requires disk { IsDisk disk.now }
     requires image { IsImage image }
-    ensures filled { IfOk result (IsFilled disk.now image) }
+    ensures filled { IfOk result (IsStackWithImage disk.now image) }
     ensures faults { IfErr result IsFileError }
     ensures size { length image / 512 ≢ disk.now.sectors → result ≡ Err (refused_by refusals.File) }
     ensures memory { IfErr result (λ fault. length image / 512 ≡ disk.now.sectors
@@ -195,7 +195,7 @@ fn finish<F: Files>(
     files: &mut F,
     server: Server<Stack, Stack>,
     end: Result<nbd::Served, Refusal>,
-) -> Result<Served, RunError>
+) -> Result<ServedSession, RunError>
     ensures reports { IfOk result (Reports server end) }
     ensures written { OnOk result (MatchesContents (F.contents files.new name.now)
         (image_of (disk_of server.recorder.store.device))) }
@@ -210,7 +210,7 @@ fn finish<F: Files>(
         log_disk: log.lies(),
     };
     files.write(alloc, name, log.into_disk())?;
-    Ok(Served { status, lies, end })
+    Ok(ServedSession { status, lies, end })
 }
 
 /// Prints how many requests of each kind a client made, and how its session ended if it didn't

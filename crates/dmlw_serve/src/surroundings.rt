@@ -1,7 +1,7 @@
 //! The system's time, a file whose lines are marks, and the counts of a client's requests.
 use crate::counts::Counts;
 use bio::{End, Ms};
-use nbd::{Header, Host};
+use nbd::{Host, RequestHeader};
 use std::alloc::{AllocError, Global};
 use std::io::{Read, Seek, SeekFrom, Write};
 use std::rt::Files;
@@ -114,7 +114,7 @@ impl<R: Clock + Files, E: Write + Drop> Host for Surroundings<'_, R, E> {
         }
     }
 
-    fn request_came(&mut self, header: &Header) {
+    fn request_came(&mut self, header: &RequestHeader) {
         self.counts.add(header);
     }
 

@@ -16,7 +16,7 @@ use Rattle.refusals.specs.Words.{after_byte, before_byte, is_number, number_of, 
 use Rattle.dust_layer.specs.declared.order.Order.{Order}
 use Rattle.dust_layer.specs.declared.order.Order.TheVariants as orders
 use Rattle.dust_layer.specs.Orders.{spaced, AsksFor, IsCount}
-use Rattle.dust_layer.specs.inside.{add_of, count_of, in_byte, lone_order, order_of, order_parts}
+use Rattle.dust_layer.specs.inside.{add_of, word_count, in_byte, lone_order, order_of, order_parts}
 use Rattle.dust_layer.specs.inside.{order_with}
 
 chosen : {A : Type 0} (t : Bool) (x y z : A) → cond t x y ≡ z
@@ -122,7 +122,7 @@ record CountRead (words : List ℕ) (count : ℕ) : Type 0 where
   joined : words ≡ spaced (before_byte 32 words ∷ count_words)
 
 count_read : (words : List ℕ) (rest : Option (List ℕ)) (count : ℕ) → after_byte 32 words ≡ rest
-    → count_of rest ≡ Some count → CountRead words count
+    → word_count rest ≡ Some count → CountRead words count
 count_read words None count cut e =
     record { count_words = []; counted = cc; joined = sym (before_all 32 words cut) }
 count_read words (Some word) count cut e =
@@ -139,8 +139,8 @@ add_read : (words : List ℕ) (order : Order) → add_of words ≡ Some order
 add_read words order e =
     let b =
     bind_some (λ block. option_map (λ count. orders.Add block count)
-    (count_of (after_byte 32 words))) (number_of (before_byte 32 words)) order e in
-    let c = map_some (λ count. orders.Add b.0 count) (count_of (after_byte 32 words)) order b.2 in
+    (word_count (after_byte 32 words))) (number_of (before_byte 32 words)) order e in
+    let c = map_some (λ count. orders.Add b.0 count) (word_count (after_byte 32 words)) order b.2 in
     let k = count_read words (after_byte 32 words) c.0 refl c.1 in
     rw (← c.2) (record {
       block_word = before_byte 32 words;
@@ -202,15 +202,15 @@ order_read text order e = parts_read text (after_byte 32 text) order refl e
 count_again : (word : List ℕ) (words : List (List ℕ)) (count : ℕ) → lacks 32 word ≡ true
     → IsCount words count
     → (before_byte 32 (spaced (word ∷ words)) ≡ word)
-    × (count_of (after_byte 32 (spaced (word ∷ words))) ≡ Some count)
+    × (word_count (after_byte 32 (spaced (word ∷ words))) ≡ Some count)
 count_again word [] count lack is =
-    let c = cut_alone word lack in (c.0, ap count_of c.1 ∙ ap Some (sym is))
+    let c = cut_alone word lack in (c.0, ap word_count c.1 ∙ ap Some (sym is))
 count_again word (next ∷ []) count lack is =
     let c = cut_at 32 word next lack in
     let low : count ≤ 255 = is.1 in
     let test : nat_lt count 256 ≡ true = lt-ltb count 256 (omega arith) in (
       c.0,
-      ap count_of c.1 ∙ bind_at in_byte (number_of next) count (Some count)
+      ap word_count c.1 ∙ bind_at in_byte (number_of next) count (Some count)
           (number_again next count is.0) (cond-true _ _ _ test),
     )
 count_again word (next ∷ more ∷ words) count lack is = absurd is

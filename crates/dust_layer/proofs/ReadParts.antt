@@ -14,7 +14,7 @@ use Rattle.blockdev.specs.JoinLaws.{goes_both, stays_both}
 use Rattle.blockdev.specs.Law.{DeviceFrame, CrashSetKept}
 use Rattle.bio.specs.Content.{Content, gather, nothing}
 use Rattle.bio.specs.ContentLaws.{gather-ext, patched-none}
-use Rattle.dust_layer.specs.Walk.{Bad, DoesParts, FailsBelow, bytes_within, part_of, reach}
+use Rattle.dust_layer.specs.Walk.{Bad, DoesParts, FailsBelow, bytes_within, call_part, reach}
 use Rattle.dust_layer.proofs.BlockWalk.{times-le, reach_last, HasPassed, passed_next, IsNextPart}
 use Rattle.dust_layer.proofs.BlockWalk.{next_part_from}
 
@@ -44,8 +44,7 @@ reach-order : (block first count p q : ℕ) → p ≤ q
     → reach block first count p ≤ reach block first count q
 reach-order block first count p q order = grind (arith, times-le)
 
--- The first `done` blocks of a read are done: the buffer has the content of the sectors below
--- `from`.
+-- The read has done `done` blocks; the buffer has the sectors before `from`.
 pub record Reading {D : Type 0} (does : D → Call → ℕ → Result ℕ DevError → D → Type 0)
     (shown : D → View) (block first : ℕ) (before now_bytes : List ℕ)
     (bad : Bad) (done from : ℕ) (old : D) (now : ℕ) (new : D) (end : ℕ) : Type 0 where
@@ -56,7 +55,7 @@ pub record Reading {D : Type 0} (does : D → Call → ℕ → Result ℕ DevErr
   pub goes : DeviceFrame nothing (shown old) (shown new)
   pub stays : CrashSetKept (shown old) (shown new)
 
--- the blocks that were read use only the buffer's bytes below sector `from`
+-- the blocks done so far don't depend on the buffer from sector `from` on
 passed_read : {D : Type 0} (does : D → Call → ℕ → Result ℕ DevError → D → Type 0) (block first : ℕ)
     (before xs ys : List ℕ) (bad : Bad) (done from : ℕ)
     (old : D) (now : ℕ) (new : D) (end : ℕ)
@@ -68,8 +67,8 @@ passed_read does block first before xs ys bad done from old now new end same so_
   passes = record {
     free = so_far.passes.free;
     parts =
-        parts_same does (part_of block (Reads first before xs))
-        (part_of block (Reads first before ys)) (first / block) done old now new end
+        parts_same does (call_part block (Reads first before xs))
+        (call_part block (Reads first before ys)) (first / block) done old now new end
         (λ place low high.
         let a = reach block first (length before / 512) place in
         let b = reach block first (length before / 512) (suc place) in
@@ -88,7 +87,7 @@ passed_read does block first before xs ys bad done from old now new end same so_
         (omega (arith, order, begins, ends)) same)) so_far.passes.parts;
   };
   list = so_far.list;
-  moment = so_far.moment;
+  time = so_far.time;
 }
 
 gather-add : (c : Content) (first k n : ℕ)

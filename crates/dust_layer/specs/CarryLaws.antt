@@ -8,8 +8,8 @@ use Rattle.dust_layer.specs.declared.mode.Mode.{Mode}
 use Rattle.dust_layer.specs.declared.mode.Mode.TheVariants.{Bypass, FailReadOnBadBlock}
 use Rattle.dust_layer.specs.declared.parts.Stop.{Stop}
 use Rattle.dust_layer.specs.declared.parts.Stop.TheVariants.{Below, Struck}
-use Rattle.dust_layer.specs.Walk.{begin_of, blocks_of, part_of, ByBlock, DoesParts, Passes, Bad}
-use Rattle.dust_layer.specs.DustRule.{Held, IsChecked, IsDoneBy, IsPassed}
+use Rattle.dust_layer.specs.Walk.{begin_of, blocks_of, call_part, ByBlock, DoesParts, Passes, Bad}
+use Rattle.dust_layer.specs.DustRule.{DustState, IsChecked, IsDoneBy, IsForwarded}
 
 -- whether a call can change a device so: device before, call, time, result, device after
 abbrev pub Doing : Type 0 → Type 1
@@ -23,7 +23,7 @@ IsCarried {D} {E} does other fine f =
     → does old call now result new → other (f old) call now result (f new) × fine new
 
 -- `it` with the lower device `f it.lower`; the list and the count of faults stay
-abbrev pub held_as : {D E : Type 0} → (D → E) → Held D → Held E
+abbrev pub held_as : {D E : Type 0} → (D → E) → DustState D → DustState E
 held_as f it = record { lower = f it.lower; bad = it.bad; faults = it.faults }
 
 -- `f` carries over parts that are done one after another.
@@ -49,7 +49,7 @@ passes_carried : {D E : Type 0} (does : Doing D) (other : Doing E) (fine : D →
     → Passes other block call bad count (f old) now (f new) end × fine new
 passes_carried does other fine f each block call bad count old now new end holds is =
     let parts =
-    parts_carried does other fine f each (part_of block call)
+    parts_carried does other fine f each (call_part block call)
     (begin_of block call) count old now new end holds is.parts in
     (record { free = is.free; parts = parts.0 }, parts.1)
 
@@ -86,7 +86,7 @@ blocks_carried does other fine f each block call bad after old now new
     passes_carried does other fine f each block call bad is.count old now is.mid is.end
     holds is.passes in
     let last =
-    each is.mid (part_of block call (begin_of block call + is.count)) is.end
+    each is.mid (call_part block call (begin_of block call + is.count)) is.end
     (Err error) new passes.1 is.fails in (
       record {
         count = is.count;
@@ -102,19 +102,19 @@ blocks_carried does other fine f each block call bad after old now new
       last.1,
     )
 
--- `f` carries over a call that is passed (`IsPassed`), and a call that is checked (`IsChecked`).
+-- `f` carries over a call that is passed (`IsForwarded`), and a call that is checked (`IsChecked`).
 passed_carried : {D E : Type 0} (does : Doing D) (other : Doing E) (fine : D → Type 0) (f : D → E)
     → IsCarried does other fine f
-    → (call : Call) (now : ℕ) (result : Result ℕ DevError) (old new : Held D) → fine old.lower
-    → IsPassed does call now result old new
-    → IsPassed other call now result (held_as f old) (held_as f new) × fine new.lower
+    → (call : Call) (now : ℕ) (result : Result ℕ DevError) (old new : DustState D) → fine old.lower
+    → IsForwarded does call now result old new
+    → IsForwarded other call now result (held_as f old) (held_as f new) × fine new.lower
 passed_carried does other fine f each call now result old new holds is =
     let below = each old.lower call now result new.lower holds is.below in
     (record { below = below.0; list = is.list; faults = is.faults }, below.1)
 
 checked_carried : {D E : Type 0} (does : Doing D) (other : Doing E) (fine : D → Type 0) (f : D → E)
     → IsCarried does other fine f
-    → (block : ℕ) (call : Call) (now : ℕ) (result : Result ℕ DevError) (old new : Held D)
+    → (block : ℕ) (call : Call) (now : ℕ) (result : Result ℕ DevError) (old new : DustState D)
     → fine old.lower → IsChecked does block call now result old new
     → IsChecked other block call now result (held_as f old) (held_as f new) × fine new.lower
 checked_carried does other fine f each block call now result old new holds is =
@@ -127,7 +127,7 @@ checked_carried does other fine f each block call now result old new holds is =
 pub done_carried : {D E : Type 0} (does : Doing D) (other : Doing E) (fine : D → Type 0) (f : D → E)
     → IsCarried does other fine f
     → (mode : Mode) (block : ℕ) (call : Call) (now : ℕ) (result : Result ℕ DevError)
-    (old new : Held D) → fine old.lower
+    (old new : DustState D) → fine old.lower
     → IsDoneBy does mode block call now result old new
     → IsDoneBy other mode block call now result (held_as f old) (held_as f new) × fine new.lower
 done_carried does other fine f each Bypass block call now result old new holds is =

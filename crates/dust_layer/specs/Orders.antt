@@ -52,12 +52,12 @@ AsksFor text orders.Disable = text ≡ codes "disable"
 
 -- The first sector of a block is within a layer. A block has `size` sectors, and the layer has
 -- `sectors`.
-abbrev pub IsWithin : ℕ → ℕ → ℕ → Type 0
-IsWithin block size sectors = block * size < sectors
+abbrev pub BlockIsWithin : ℕ → ℕ → ℕ → Type 0
+BlockIsWithin block size sectors = block * size < sectors
 
 -- the block is listed
-abbrev pub IsListed : Bad → ℕ → Type 0
-IsListed bad block = is_some (bad block) ≡ true
+abbrev pub ListsBlock : Bad → ℕ → Type 0
+ListsBlock bad block = is_some (bad block) ≡ true
 
 abbrev pub IsUnlisted : Bad → ℕ → Type 0
 IsUnlisted bad block = is_some (bad block) ≡ false
@@ -66,8 +66,8 @@ IsUnlisted bad block = is_some (bad block) ≡ false
 -- unlisted for Add, and listed for Remove.
 abbrev pub CanBeDone : ℕ → ℕ → Order → Bad → Type 0
 CanBeDone size sectors (orders.Add block count) bad =
-    IsWithin block size sectors × IsUnlisted bad block
-CanBeDone size sectors (orders.Remove block) bad = IsWithin block size sectors × IsListed bad block
+    BlockIsWithin block size sectors × IsUnlisted bad block
+CanBeDone size sectors (orders.Remove block) bad = BlockIsWithin block size sectors × ListsBlock bad block
 CanBeDone size sectors orders.Clear bad = Unit {0}
 CanBeDone size sectors orders.Enable bad = Unit {0}
 CanBeDone size sectors orders.Disable bad = Unit {0}
@@ -75,21 +75,21 @@ CanBeDone size sectors orders.Disable bad = Unit {0}
 -- Why an order is refused. Add and Remove fail with BadMessage if the block isn't within the layer.
 -- If the block is within the layer, Add fails with AlreadyBad if it is listed, and otherwise only
 -- with Memory. Remove fails with NotBad if the block is unlisted. No other order is refused.
-abbrev pub IsRefused : ℕ → ℕ → Order → Bad → MessageError → Type 0
-IsRefused size sectors (orders.Add block count) bad errors.BadMessage = sectors ≤ block * size
-IsRefused size sectors (orders.Add block count) bad errors.AlreadyBad =
-    IsWithin block size sectors × IsListed bad block
-IsRefused size sectors (orders.Add block count) bad errors.NotBad = ⊥
-IsRefused size sectors (orders.Add block count) bad errors.Memory =
-    IsWithin block size sectors × IsUnlisted bad block
-IsRefused size sectors (orders.Remove block) bad errors.BadMessage = sectors ≤ block * size
-IsRefused size sectors (orders.Remove block) bad errors.AlreadyBad = ⊥
-IsRefused size sectors (orders.Remove block) bad errors.NotBad =
-    IsWithin block size sectors × IsUnlisted bad block
-IsRefused size sectors (orders.Remove block) bad errors.Memory = ⊥
-IsRefused size sectors orders.Clear bad error = ⊥
-IsRefused size sectors orders.Enable bad error = ⊥
-IsRefused size sectors orders.Disable bad error = ⊥
+abbrev pub RefusesOrder : ℕ → ℕ → Order → Bad → MessageError → Type 0
+RefusesOrder size sectors (orders.Add block count) bad errors.BadMessage = sectors ≤ block * size
+RefusesOrder size sectors (orders.Add block count) bad errors.AlreadyBad =
+    BlockIsWithin block size sectors × ListsBlock bad block
+RefusesOrder size sectors (orders.Add block count) bad errors.NotBad = ⊥
+RefusesOrder size sectors (orders.Add block count) bad errors.Memory =
+    BlockIsWithin block size sectors × IsUnlisted bad block
+RefusesOrder size sectors (orders.Remove block) bad errors.BadMessage = sectors ≤ block * size
+RefusesOrder size sectors (orders.Remove block) bad errors.AlreadyBad = ⊥
+RefusesOrder size sectors (orders.Remove block) bad errors.NotBad =
+    BlockIsWithin block size sectors × IsUnlisted bad block
+RefusesOrder size sectors (orders.Remove block) bad errors.Memory = ⊥
+RefusesOrder size sectors orders.Clear bad error = ⊥
+RefusesOrder size sectors orders.Enable bad error = ⊥
+RefusesOrder size sectors orders.Disable bad error = ⊥
 
 -- the list after an order that is done
 abbrev pub list_ordered : Order → Bad → Bad
@@ -109,13 +109,13 @@ mode_ordered orders.Disable enabled = false
 
 -- The answer to an order over blocks of `size` sectors in a layer of `sectors`, and the state after
 -- it. If the order is refused, nothing changes.
-abbrev pub IsAnswered : ℕ → ℕ → Order → Result (Unit {0}) MessageError → Bad → Bool → Bad → Bool
+abbrev pub AnswersOrder : ℕ → ℕ → Order → Result (Unit {0}) MessageError → Bad → Bool → Bad → Bool
     → Type 0
-IsAnswered size sectors order (Ok done) old was new enabled =
+AnswersOrder size sectors order (Ok done) old was new enabled =
     CanBeDone size sectors order old × IsList new (list_ordered order old)
     × (enabled ≡ mode_ordered order was)
-IsAnswered size sectors order (Err error) old was new enabled =
-    IsRefused size sectors order old error × IsList new old × (enabled ≡ was)
+AnswersOrder size sectors order (Err error) old was new enabled =
+    RefusesOrder size sectors order old error × IsList new old × (enabled ≡ was)
 
 -- The sizes of blocks, and the words for the two modes.
 

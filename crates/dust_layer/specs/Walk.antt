@@ -9,8 +9,8 @@ use Rattle.bio.specs.declared.outcome.DevError.{DevError}
 use Rattle.blockdev.specs.Law.{HasCause}
 use Rattle.blockdev.specs.View.{Call, Discards, Flushes, Reads, View, Writes}
 use Rattle.dust_layer.specs.declared.bad_blocks.BadBlocks.{BadBlocks}
-use Rattle.dust_layer.specs.declared.parts.Change.{Change}
-use Rattle.dust_layer.specs.declared.parts.Change.TheVariants as changes
+use Rattle.dust_layer.specs.declared.parts.PartChange.{PartChange}
+use Rattle.dust_layer.specs.declared.parts.PartChange.TheVariants as changes
 use Rattle.dust_layer.specs.declared.parts.Stop.{Stop}
 use Rattle.dust_layer.specs.declared.parts.Stop.TheVariants.{Below, Struck}
 
@@ -21,8 +21,8 @@ abbrev pub Bad : Type 0
 Bad = ℕ → Option ℕ
 
 -- the counts of the blocks that `blocks` lists
-abbrev pub listed : BadBlocks → Bad
-listed blocks = get nat_cmp blocks.counts
+abbrev pub listed_counts : BadBlocks → Bad
+listed_counts blocks = get nat_cmp blocks.counts
 
 -- both list the same blocks, with the same counts
 abbrev pub IsList : Bad → Bad → Type 0
@@ -33,16 +33,16 @@ abbrev pub IsNoList : Bad → Type 0
 IsNoList bad = (block : ℕ) → bad block ≡ None
 
 -- the count that a block has left: 0 if it isn't listed
-abbrev pub left_at : Bad → ℕ → ℕ
-left_at bad block = unwrap_or (bad block) 0
+abbrev pub count_left : Bad → ℕ → ℕ
+count_left bad block = unwrap_or (bad block) 0
 
 -- the list `bad`, but with `entry` as the entry of block `place`
 abbrev pub with_entry : ℕ → Option ℕ → Bad → Bad
 with_entry place entry bad block = if place == block then entry else bad block
 
 -- the list `bad` without the blocks from `from` to before `to`
-abbrev pub without : ℕ → ℕ → Bad → Bad
-without from to bad block = if nat_le from block && nat_lt block to then None else bad block
+abbrev pub list_without : ℕ → ℕ → Bad → Bad
+list_without from to bad block = if nat_le from block && nat_lt block to then None else bad block
 
 -- How a call goes over a device block by block.
 
@@ -53,11 +53,11 @@ first_of (Writes first bytes fua) = first
 first_of (Discards first count) = first
 first_of Flushes = 0
 
-abbrev pub count_of : Call → ℕ
-count_of (Reads first before after) = length before / 512
-count_of (Writes first bytes fua) = length bytes / 512
-count_of (Discards first count) = count
-count_of Flushes = 0
+abbrev pub listed_count : Call → ℕ
+listed_count (Reads first before after) = length before / 512
+listed_count (Writes first bytes fua) = length bytes / 512
+listed_count (Discards first count) = count
+listed_count Flushes = 0
 
 -- the values that a call writes to its sectors
 abbrev pub patch_of : Call → Patch
@@ -76,7 +76,7 @@ block_behind block first count = suc ((first + count - 1) / block)
 -- the number of blocks that a call touches
 abbrev pub blocks_of : ℕ → Call → ℕ
 blocks_of block call =
-    block_behind block (first_of call) (count_of call) - block_of_first block (first_of call)
+    block_behind block (first_of call) (listed_count call) - block_of_first block (first_of call)
 
 -- the first block that a call touches
 abbrev pub begin_of : ℕ → Call → ℕ
@@ -99,10 +99,10 @@ part_within from to (Discards first count) = Discards from (to - from)
 part_within from to Flushes = Flushes
 
 -- the part of a call that lies in one block
-abbrev pub part_of : ℕ → Call → ℕ → Call
-part_of block call place =
-    part_within (reach block (first_of call) (count_of call) place)
-    (reach block (first_of call) (count_of call) (suc place)) call
+abbrev pub call_part : ℕ → Call → ℕ → Call
+call_part block call place =
+    part_within (reach block (first_of call) (listed_count call) place)
+    (reach block (first_of call) (listed_count call) (suc place)) call
 
 -- The parts of `count` blocks, from block `begin` on, are done one after another. Each part ends
 -- Ok, and starts at the time at which the part before it ended. `does` describes the lower device.
@@ -117,24 +117,24 @@ DoesParts {D} does part begin (suc count) old now new end =
 -- stops a write or a discard.
 abbrev pub stops : Call → Bad → ℕ → Bool
 stops (Reads first before after) bad place = is_some (bad place)
-stops (Writes first bytes fua) bad place = nat_lt 0 (left_at bad place)
-stops (Discards first count) bad place = nat_lt 0 (left_at bad place)
+stops (Writes first bytes fua) bad place = nat_lt 0 (count_left bad place)
+stops (Discards first count) bad place = nat_lt 0 (count_left bad place)
 stops Flushes bad place = false
 
 -- The list after the parts of `count` blocks, from block `begin` on, were done. A read doesn't
 -- change the list. A write or a discard removes these blocks from it.
 abbrev pub list_passed : Call → ℕ → ℕ → Bad → Bad
 list_passed (Reads first before after) begin count bad = bad
-list_passed (Writes first bytes fua) begin count bad = without begin (begin + count) bad
-list_passed (Discards first count) begin blocks bad = without begin (begin + blocks) bad
+list_passed (Writes first bytes fua) begin count bad = list_without begin (begin + count) bad
+list_passed (Discards first count) begin blocks bad = list_without begin (begin + blocks) bad
 list_passed Flushes begin count bad = bad
 
 -- The list after the block `place` stopped a call. A read doesn't change the list. A write or a
 -- discard lowers the block's count by one.
 abbrev pub list_struck : Call → ℕ → Bad → Bad
 list_struck (Reads first before after) place bad = bad
-list_struck (Writes first bytes fua) place bad = with_entry place (Some (left_at bad place - 1)) bad
-list_struck (Discards first count) place bad = with_entry place (Some (left_at bad place - 1)) bad
+list_struck (Writes first bytes fua) place bad = with_entry place (Some (count_left bad place - 1)) bad
+list_struck (Discards first count) place bad = with_entry place (Some (count_left bad place - 1)) bad
 list_struck Flushes place bad = bad
 
 -- The first `count` blocks of a call don't stop it, and their parts are done.
@@ -143,7 +143,7 @@ pub record Passes {D : Type 0} (does : D → Call → ℕ → Result ℕ DevErro
     (old : D) (now : ℕ) (new : D) (end : ℕ) : Type 0 where
   pub free : (place : ℕ) → begin_of block call ≤ place → place < begin_of block call + count
       → stops call bad place ≡ false
-  pub parts : DoesParts does (part_of block call) (begin_of block call) count old now new end
+  pub parts : DoesParts does (call_part block call) (begin_of block call) count old now new end
 
 -- The call is done: no block stops it, and all its parts are done.
 pub record IsDone {D : Type 0} (does : D → Call → ℕ → Result ℕ DevError → D → Type 0) (block : ℕ)
@@ -165,7 +165,7 @@ KeepsRest block Flushes count = Unit {0}
 
 -- A bad block stops the call. The parts of the `count` blocks before it are done, and no others. A
 -- read doesn't change the rest of its buffer.
-pub record IsStopped {D : Type 0} (does : D → Call → ℕ → Result ℕ DevError → D → Type 0) (block : ℕ)
+pub record StopsAtBadBlock {D : Type 0} (does : D → Call → ℕ → Result ℕ DevError → D → Type 0) (block : ℕ)
     (call : Call) (bad after : Bad)
     (old : D) (now : ℕ) (new : D) : Type 0 where
   pub count : ℕ
@@ -190,7 +190,7 @@ pub record FailsBelow {D : Type 0} (does : D → Call → ℕ → Result ℕ Dev
   -- the block after the first `count` blocks doesn't stop the call, but its part fails
   pub within : count < blocks_of block call
   pub free : stops call bad (begin_of block call + count) ≡ false
-  pub fails : does mid (part_of block call (begin_of block call + count)) end (Err error) new
+  pub fails : does mid (call_part block call (begin_of block call + count)) end (Err error) new
   -- a read doesn't change its buffer after the part that failed
   pub rest : KeepsRest block call (suc count)
   pub list : IsList after (list_passed call (begin_of block call) count bad)
@@ -201,7 +201,7 @@ abbrev pub ByBlock : {D : Type 0} → (D → Call → ℕ → Result ℕ DevErro
 ByBlock does block call bad after old now new (Ok end) =
     IsDone does block call bad after old now new end
 ByBlock does block call bad after old now new (Err Struck) =
-    IsStopped does block call bad after old now new
+    StopsAtBadBlock does block call bad after old now new
 ByBlock does block call bad after old now new (Err (Below error)) =
     FailsBelow does block call bad after old now new error
 
@@ -216,14 +216,14 @@ pub record IsTouched (block first count place : ℕ) : Type 0 where
   pub low : block_of_first block first ≤ place
   pub high : place < block_behind block first count
 
--- The call that a `Change` asks for, and whether it is durable.
+-- The call that a `PartChange` asks for, and whether it is durable.
 
 -- the write from `first` on, or the discard of `count` sectors from `first` on
-abbrev pub call_of : ℕ → ℕ → Change → Call
-call_of first count (changes.Write bytes fua) = Writes first bytes.now fua
-call_of first count changes.Discard = Discards first count
+abbrev pub change_call : ℕ → ℕ → PartChange → Call
+change_call first count (changes.Write bytes fua) = Writes first bytes.now fua
+change_call first count changes.Discard = Discards first count
 
 -- whether the change is durable when it ends
-abbrev pub fua_of : Change → Bool
+abbrev pub fua_of : PartChange → Bool
 fua_of (changes.Write bytes fua) = fua
 fua_of changes.Discard = false

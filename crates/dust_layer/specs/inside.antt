@@ -14,15 +14,15 @@ abbrev pub in_byte : ℕ → Option ℕ
 in_byte n = if nat_lt n 256 then Some n else None
 
 -- the count that a word gives, or None if it gives none; no word means count 0
-abbrev pub count_of : Option (List ℕ) → Option ℕ
-count_of None = Some 0
-count_of (Some word) = option_and_then in_byte (number_of word)
+abbrev pub word_count : Option (List ℕ) → Option ℕ
+word_count None = Some 0
+word_count (Some word) = option_and_then in_byte (number_of word)
 
 -- the order to list a block, given the words after `addbadblock`, or None
 abbrev pub add_of : List ℕ → Option Order
 add_of words =
     option_and_then (λ block. option_map (λ count. orders.Add block count)
-    (count_of (after_byte 32 words))) (number_of (before_byte 32 words))
+    (word_count (after_byte 32 words))) (number_of (before_byte 32 words))
 
 -- the order with the first word `verb` and the other words `words`, or None
 abbrev pub order_with : List ℕ → List ℕ → Option Order

@@ -1,8 +1,8 @@
 //! Does what a message to a device with bad blocks asks for, or refuses it.
 //! `Dust` calls `apply` for each order that `order_of` parses.
 ghost use Rattle.std.specs.Prelude.{◌<◌, ◌↔◌, IsTrue};
-ghost use Rattle.dust_layer.specs.Walk.{listed};
-ghost use Rattle.dust_layer.specs.Orders.{IsAnswered, IsWithin};
+ghost use Rattle.dust_layer.specs.Walk.{listed_counts};
+ghost use Rattle.dust_layer.specs.Orders.{AnswersOrder, BlockIsWithin};
 
 use crate::bad_blocks::BadBlocks;
 use crate::order::Order;
@@ -12,7 +12,7 @@ use blockdev::MessageError;
 /// `size` sectors.
 pub(crate) fn is_within(block: u64, size: u64, sectors: u64) -> bool
     requires some { 0 < size }
-    ensures { IsTrue result ↔ IsWithin block size sectors }
+    ensures { IsTrue result ↔ BlockIsWithin block size sectors }
 {
     sectors > 0 && block <= (sectors - 1) / size
 }
@@ -29,8 +29,8 @@ pub(crate) fn apply(
     order: Order,
 ) -> Result<(), MessageError>
     requires some { 0 < size }
-    ensures { IsAnswered size sectors order result (listed bad.old) enabled.old
-        (listed bad.new) enabled.new }
+    ensures { AnswersOrder size sectors order result (listed_counts bad.old) enabled.old
+        (listed_counts bad.new) enabled.new }
 {
     match order {
         Order::Add { block, count } => {

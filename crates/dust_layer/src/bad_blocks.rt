@@ -4,7 +4,7 @@ ghost use Rattle.std.specs.Prelude.{◌≡◌, ◌-◌, IfErr, Err, Ok, OnErr, O
 ghost use Rattle.std.specs.Prelude.{is_some, nat_lt, true};
 ghost use Rattle.blockdev.specs.declared.message.MessageError.TheVariants.{AlreadyBad, Memory};
 ghost use Rattle.blockdev.specs.declared.message.MessageError.TheVariants.{NotBad};
-ghost use Rattle.dust_layer.specs.Walk.{IsList, IsNoList, left_at, listed, with_entry};
+ghost use Rattle.dust_layer.specs.Walk.{IsList, IsNoList, count_left, listed_counts, with_entry};
 
 use blockdev::MessageError;
 use std::alloc::{AllocError, Global};
@@ -19,7 +19,7 @@ pub(crate) struct BadBlocks {
 impl BadBlocks {
     /// Returns an empty list.
     pub(crate) fn new(alloc: Global) -> BadBlocks
-        ensures { IsNoList (listed result) }
+        ensures { IsNoList (listed_counts result) }
     {
         BadBlocks {
             counts: BTreeMap::new(alloc),
@@ -28,7 +28,7 @@ impl BadBlocks {
 
     /// Returns whether a block is listed.
     pub(crate) fn has(&self, block: u64) -> bool
-        ensures { result ≡ is_some (listed self.now block) }
+        ensures { result ≡ is_some (listed_counts self.now block) }
     {
         self.counts.contains_key(&block)
     }
@@ -36,11 +36,11 @@ impl BadBlocks {
     /// Returns whether `block` fails a write or a discard: whether it is listed with a count above
     /// 0. If so, lowers the count by one.
     pub(crate) fn strike(&mut self, block: u64) -> bool
-        ensures struck { result ≡ nat_lt 0 (left_at (listed self.old) block) }
+        ensures struck { result ≡ nat_lt 0 (count_left (listed_counts self.old) block) }
         ensures less { result ≡ true
-            → IsList (listed self.new)
-            (with_entry block (Some (left_at (listed self.old) block - 1)) (listed self.old)) }
-        ensures same { result ≡ false → IsList (listed self.new) (listed self.old) }
+            → IsList (listed_counts self.new)
+            (with_entry block (Some (count_left (listed_counts self.old) block - 1)) (listed_counts self.old)) }
+        ensures same { result ≡ false → IsList (listed_counts self.new) (listed_counts self.old) }
     {
         match self.counts.get_mut(&block) {
             Some(count) if *count > 0 => {
@@ -53,7 +53,7 @@ impl BadBlocks {
 
     /// Removes a block from the list, if it is listed.
     pub(crate) fn forget(&mut self, block: u64)
-        ensures { IsList (listed self.new) (with_entry block None (listed self.old)) }
+        ensures { IsList (listed_counts self.new) (with_entry block None (listed_counts self.old)) }
     {
         let _count = self.counts.remove(&block);
     }
@@ -62,8 +62,8 @@ impl BadBlocks {
     /// returns the error, and the list stays.
     pub(crate) fn add(&mut self, block: u64, count: u8) -> Result<(), AllocError>
         ensures added { OnOk result
-            (IsList (listed self.new) (with_entry block (Some count) (listed self.old))) }
-        ensures same { OnErr result (IsList (listed self.new) (listed self.old)) }
+            (IsList (listed_counts self.new) (with_entry block (Some count) (listed_counts self.old))) }
+        ensures same { OnErr result (IsList (listed_counts self.new) (listed_counts self.old)) }
     {
         self.counts.insert(block, count)?;
         Ok(())
@@ -71,7 +71,7 @@ impl BadBlocks {
 
     /// Removes all blocks from the list.
     pub(crate) fn clear(&mut self)
-        ensures { IsNoList (listed self.new) }
+        ensures { IsNoList (listed_counts self.new) }
     {
         self.counts.clear();
     }
@@ -81,10 +81,10 @@ impl BadBlocks {
     /// unchanged.
     pub(crate) fn list(&mut self, block: u64, count: u8) -> Result<(), MessageError>
         ensures added { OnOk result
-            (IsList (listed self.new) (with_entry block (Some count) (listed self.old))) }
-        ensures same { OnErr result (IsList (listed self.new) (listed self.old)) }
-        ensures already { is_some (listed self.old block) ≡ true → result ≡ Err AlreadyBad }
-        ensures fresh { is_some (listed self.old block) ≡ false
+            (IsList (listed_counts self.new) (with_entry block (Some count) (listed_counts self.old))) }
+        ensures same { OnErr result (IsList (listed_counts self.new) (listed_counts self.old)) }
+        ensures already { is_some (listed_counts self.old block) ≡ true → result ≡ Err AlreadyBad }
+        ensures fresh { is_some (listed_counts self.old block) ≡ false
             → IfErr result (λ error. error ≡ Memory) }
     {
         if self.has(block) {
@@ -99,10 +99,10 @@ impl BadBlocks {
     /// Removes a block from the list. If the block isn't listed, fails with NotBad, and the list
     /// stays.
     pub(crate) fn unlist(&mut self, block: u64) -> Result<(), MessageError>
-        ensures removed { is_some (listed self.old block) ≡ true →
-            (result ≡ Ok tt) × IsList (listed self.new) (with_entry block None (listed self.old)) }
-        ensures refused { is_some (listed self.old block) ≡ false →
-            (result ≡ Err NotBad) × IsList (listed self.new) (listed self.old) }
+        ensures removed { is_some (listed_counts self.old block) ≡ true →
+            (result ≡ Ok tt) × IsList (listed_counts self.new) (with_entry block None (listed_counts self.old)) }
+        ensures refused { is_some (listed_counts self.old block) ≡ false →
+            (result ≡ Err NotBad) × IsList (listed_counts self.new) (listed_counts self.old) }
     {
         if !self.has(block) {
             return Err(MessageError::NotBad);

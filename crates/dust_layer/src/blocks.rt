@@ -4,11 +4,11 @@ ghost use Rattle.std.specs.Prelude.{◌≡◌, ◌<◌, ◌≤◌, ◌/◌, OnOk
 ghost use Rattle.blockdev.specs.View.{IsByteRange, IsRange, Reads};
 ghost use Rattle.blockdev.specs.Law.{DeviceFrame, WriteDone, NoLie, CrashSetKept};
 ghost use Rattle.bio.specs.Content.{gather, nothing};
-ghost use Rattle.dust_layer.specs.Walk.{ByBlock, HasCauseBelow, call_of, count_of, fua_of, listed};
+ghost use Rattle.dust_layer.specs.Walk.{ByBlock, HasCauseBelow, change_call, listed_count, fua_of, listed_counts};
 ghost use Rattle.dust_layer.specs.Walk.{patch_of};
 
 use crate::bad_blocks::BadBlocks;
-use crate::parts::{Change, Stop, change_part, reach, read_part};
+use crate::parts::{PartChange, Stop, change_part, reach, read_part};
 use bio::{Ms, SECTOR_BYTES};
 use blockdev::BlockDev;
 
@@ -23,20 +23,20 @@ pub(crate) fn change_blocks<D: BlockDev>(
     now: Ms,
     first: u64,
     count: u64,
-    change: Change<'_>,
+    change: PartChange<'_>,
 ) -> Result<Ms, Stop>
     requires some { 0 < block }
     requires few { block ≤ 2097152 }
     requires range { IsRange (D.shown lower.old).size first count }
-    requires count { count_of (call_of first count change) ≡ count }
-    ensures goes { DeviceFrame (patch_of (call_of first count change.entry)) (D.shown lower.old)
+    requires count { listed_count (change_call first count change) ≡ count }
+    ensures goes { DeviceFrame (patch_of (change_call first count change.entry)) (D.shown lower.old)
         (D.shown lower.new) }
     ensures lands { OnOk result (NoLie (D.shown lower.old) (D.shown lower.new) →
-        WriteDone (patch_of (call_of first count change.entry)) (fua_of change.entry)
+        WriteDone (patch_of (change_call first count change.entry)) (fua_of change.entry)
         (D.shown lower.old) (D.shown lower.new)) }
     ensures cause { HasCauseBelow now (D.shown lower.old) (D.shown lower.new) result }
-    ensures blocks { ByBlock D.does block (call_of first count change.entry) (listed bad.old)
-        (listed bad.new) lower.old now lower.new result }
+    ensures blocks { ByBlock D.does block (change_call first count change.entry) (listed_counts bad.old)
+        (listed_counts bad.new) lower.old now lower.new result }
 {
     let begin = first / block;
     let blocks = (first + count - 1) / block + 1 - begin;
@@ -76,8 +76,8 @@ pub(crate) fn read_blocks<D: BlockDev>(
     ensures goes { DeviceFrame nothing (D.shown lower.old) (D.shown lower.new) }
     ensures stays { CrashSetKept (D.shown lower.old) (D.shown lower.new) }
     ensures cause { HasCauseBelow now (D.shown lower.old) (D.shown lower.new) result }
-    ensures blocks { ByBlock D.does block (Reads first buffer.old buffer.new) (listed bad.now)
-        (listed bad.now) lower.old now lower.new result }
+    ensures blocks { ByBlock D.does block (Reads first buffer.old buffer.new) (listed_counts bad.now)
+        (listed_counts bad.now) lower.old now lower.new result }
 {
     let count = buffer.len() as u64 / SECTOR_BYTES;
     let begin = first / block;

@@ -8,7 +8,7 @@ use crate::bad_blocks::BadBlocks;
 use crate::blocks::{change_blocks, read_blocks};
 use crate::mode::Mode;
 use crate::order::order_of;
-use crate::parts::{Change, Stop};
+use crate::parts::{PartChange, Stop};
 use bio::{DevError, Ms, SECTOR_BYTES};
 use blockdev::{BlockDev, Message, MessageError};
 use std::alloc::Global;
@@ -28,7 +28,7 @@ pub struct Dust<D: Drop> {
 
 impl<D: BlockDev + Drop> Dust<D> {
     ghost use Rattle.std.specs.Prelude.{◌≡◌, ◌/◌};
-    ghost use Rattle.dust_layer.specs.Walk.{IsNoList, listed};
+    ghost use Rattle.dust_layer.specs.Walk.{IsNoList, listed_counts};
     ghost use Rattle.dust_layer.specs.DustRule.{answer_of, faults_after};
     ghost use Rattle.dust_layer.specs.declared.mode.Mode.TheVariants.{Bypass};
 
@@ -38,7 +38,7 @@ impl<D: BlockDev + Drop> Dust<D> {
         requires { IsBlockSize block_bytes }
         ensures lower { result.lower ≡ lower }
         ensures block { result.block ≡ block_bytes / 512 }
-        ensures bad { IsNoList (listed result.bad) }
+        ensures bad { IsNoList (listed_counts result.bad) }
         ensures mode { result.mode ≡ Bypass }
         ensures faults { result.faults ≡ 0 }
     {
@@ -115,7 +115,7 @@ impl<D: BlockDev + Drop> BlockDev for Dust<D> {
             Mode::Bypass => self.lower.write(now, first, bytes, fua),
             Mode::FailReadOnBadBlock => {
                 let count = bytes.len() as u64 / SECTOR_BYTES;
-                let change = Change::Write(bytes, fua);
+                let change = PartChange::Write(bytes, fua);
                 let end = change_blocks(
                     &mut self.lower,
                     &mut self.bad,
@@ -141,7 +141,7 @@ impl<D: BlockDev + Drop> BlockDev for Dust<D> {
                     now,
                     first,
                     count,
-                    Change::Discard,
+                    PartChange::Discard,
                 );
                 self.answer(end)
             }

@@ -4,7 +4,7 @@ ghost use Rattle.std.specs.Prelude.{◌≡◌, ◌/◌, Bool, List, None, Ok, le
 ghost use Rattle.blockdev.specs.View.{Discards, Reads, Writes};
 ghost use Rattle.dust_layer.specs.declared.dust.Dust.{Dust};
 ghost use Rattle.dust_layer.specs.declared.mode.Mode.TheVariants.{FailReadOnBadBlock};
-ghost use Rattle.dust_layer.specs.Walk.{IsTouched, left_at, listed};
+ghost use Rattle.dust_layer.specs.Walk.{IsTouched, count_left, listed_counts};
 ghost use Rattle.dust_layer.specs.DustRule.{IsDusted};
 
 use blockdev::BlockDev;
@@ -17,13 +17,13 @@ pub fn only_good_blocks_are_passed<D: BlockDev + Drop>()
         (now end block : ℕ) →
         old.mode ≡ FailReadOnBadBlock
         → IsDusted D.does (Writes first bytes fua) now (Ok end) old new →
-        IsTouched old.block first (length bytes / 512) block → left_at (listed old.bad) block ≡ 0 }
+        IsTouched old.block first (length bytes / 512) block → count_left (listed_counts old.bad) block ≡ 0 }
     ensures discards { (old new : Dust D) (first count now end block : ℕ) →
         old.mode ≡ FailReadOnBadBlock
         → IsDusted D.does (Discards first count) now (Ok end) old new →
-        IsTouched old.block first count block → left_at (listed old.bad) block ≡ 0 }
+        IsTouched old.block first count block → count_left (listed_counts old.bad) block ≡ 0 }
     ensures reads { (old new : Dust D) (first : ℕ) (before after : List ℕ) (now end block : ℕ) →
         old.mode ≡ FailReadOnBadBlock
         → IsDusted D.does (Reads first before after) now (Ok end) old new →
-        IsTouched old.block first (length before / 512) block → listed old.bad block ≡ None }
+        IsTouched old.block first (length before / 512) block → listed_counts old.bad block ≡ None }
 {}

@@ -3,7 +3,7 @@
 ghost use Rattle.std.specs.Prelude.{◌≡◌, ◌↔◌, ◌<◌, Some, option_copied};
 ghost use Rattle.dust_layer.specs.declared.order.Order.{Order};
 ghost use Rattle.dust_layer.specs.Orders.{AsksFor};
-ghost use Rattle.dust_layer.specs.inside.{add_of as the_add, count_of as the_count};
+ghost use Rattle.dust_layer.specs.inside.{add_of as the_add, word_count as the_count};
 ghost use Rattle.dust_layer.specs.inside.{lone_order as the_lone_order, order_of as the_order};
 ghost use Rattle.dust_layer.specs.inside.{order_with as the_order_with};
 

@@ -5,7 +5,7 @@ ghost use Rattle.std.specs.Prelude.{take};
 ghost use Rattle.blockdev.specs.View.{IsByteRange, IsRange, Reads};
 ghost use Rattle.blockdev.specs.Law.{DeviceFrame, HasCause, WriteDone, NoLie, CrashSetKept};
 ghost use Rattle.bio.specs.Content.{gather, nothing};
-ghost use Rattle.dust_layer.specs.Walk.{bytes_within, call_of, count_of, fua_of, part_within};
+ghost use Rattle.dust_layer.specs.Walk.{bytes_within, change_call, listed_count, fua_of, part_within};
 ghost use Rattle.dust_layer.specs.Walk.{patch_of, reach};
 
 use bio::{DevError, Ms, SECTOR_BYTES};
@@ -21,7 +21,7 @@ pub(crate) enum Stop {
 
 /// What a call does to its sectors.
 #[derive(Clone, Copy)]
-pub(crate) enum Change<'a> {
+pub(crate) enum PartChange<'a> {
     /// It writes these bytes; the flag says if the write is durable when it ends.
     Write(&'a [u8], bool),
     /// It discards them.
@@ -58,27 +58,27 @@ pub(crate) fn change_part<D: BlockDev>(
     count: u64,
     from: u64,
     to: u64,
-    change: Change<'_>,
+    change: PartChange<'_>,
 ) -> Result<Ms, DevError>
     requires range { IsRange (D.shown lower.old).size first count }
-    requires count { count_of (call_of first count change) ≡ count }
+    requires count { listed_count (change_call first count change) ≡ count }
     requires from { first ≤ from }
     requires order { from < to }
     requires within { to ≤ first + count }
-    ensures goes { DeviceFrame (patch_of (part_within from to (call_of first count change.entry)))
+    ensures goes { DeviceFrame (patch_of (part_within from to (change_call first count change.entry)))
         (D.shown lower.old) (D.shown lower.new) }
     ensures lands { OnOk result (NoLie (D.shown lower.old) (D.shown lower.new) →
-        WriteDone (patch_of (part_within from to (call_of first count change.entry)))
+        WriteDone (patch_of (part_within from to (change_call first count change.entry)))
         (fua_of change.entry) (D.shown lower.old) (D.shown lower.new)) }
     ensures cause { HasCause now (D.shown lower.old) (D.shown lower.new) result }
     ensures does { D.does lower.old
-        (part_within from to (call_of first count change.entry)) now result lower.new }
+        (part_within from to (change_call first count change.entry)) now result lower.new }
 {
     match change {
-        Change::Write(bytes, fua) => {
+        PartChange::Write(bytes, fua) => {
             lower.write(now, from, bytes_within(bytes, first, from, to), fua)
         }
-        Change::Discard => lower.discard(now, from, to - from),
+        PartChange::Discard => lower.discard(now, from, to - from),
     }
 }
 

@@ -5,15 +5,15 @@ use Rattle.std.specs.Prelude.{◌-◌, ◌^◌}
 use Rattle.bio.specs.Content.{Content, moved}
 use Rattle.blockdev.specs.View.{Discards, Flushes}
 use Rattle.fault_layers.specs.Decision.{IsDecided}
-use Rattle.fault_layers.specs.declared.gate.Kind.TheVariants.{Discard, Flush, Read, Write}
-use Rattle.fault_layers.specs.declared.gate.Verdict.TheVariants.{Delay, Drop, Fail, Pass}
-use Rattle.fault_layers.specs.declared.gated.Gated.{Gated}
-use Rattle.fault_layers.specs.declared.gate.Feature.TheVariants as features
-use Rattle.fault_layers.specs.declared.gate.Target.{Target}
-use Rattle.fault_layers.specs.declared.gate.Target.TheVariants.{Linear}
-use Rattle.fault_layers.specs.declared.gate.Target.TheVariants as targets
+use Rattle.fault_layers.specs.declared.fault_rule.CallKind.TheVariants.{Discard, Flush, Read, Write}
+use Rattle.fault_layers.specs.declared.fault_rule.CallVerdict.TheVariants.{Delay, Drop, Fail, Pass}
+use Rattle.fault_layers.specs.declared.ruled.Ruled.{Ruled}
+use Rattle.fault_layers.specs.declared.fault_rule.Feature.TheVariants as features
+use Rattle.fault_layers.specs.declared.fault_rule.Target.{Target}
+use Rattle.fault_layers.specs.declared.fault_rule.Target.TheVariants.{Linear}
+use Rattle.fault_layers.specs.declared.fault_rule.Target.TheVariants as targets
 use Rattle.fault_layers.specs.Verdicts.{delay_of, delay_verdict, Delays, is_up, loaded_after}
-use Rattle.fault_layers.specs.Verdicts.{verdict_of, Cycle, Loaded, drops_writes, flakey_verdict}
+use Rattle.fault_layers.specs.Verdicts.{rule_verdict, Cycle, Loaded, drops_writes, flakey_verdict}
 use Rattle.fault_layers.specs.Verdicts.{fuse_after, fuse_verdict}
 use Rattle.fault_layers.specs.Window.{SeenFrom, call_from}
 
@@ -156,48 +156,48 @@ range-first = refl
 
 -- ---- gates
 
-abbrev gate : Target → Loaded
-gate target = record { target = target; load = 3000 }
+abbrev fault_rule : Target → Loaded
+fault_rule target = record { target = target; load = 3000 }
 
 -- Up for 10 seconds from the time 3000 on, then down for 5; it drops writes while it is down.
 abbrev dropping : Loaded
-dropping = gate (targets.Flakey 10 5 features.DropWrites)
+dropping = fault_rule (targets.Flakey 10 5 features.DropWrites)
 
-last-up-write : verdict_of dropping Write 12999 ≡ Pass
+last-up-write : rule_verdict dropping Write 12999 ≡ Pass
 last-up-write = refl
 
-first-down-write : verdict_of dropping Write 13000 ≡ Drop
+first-down-write : rule_verdict dropping Write 13000 ≡ Drop
 first-down-write = refl
 
 -- After a write a fuse has one call fewer left; after a read it has as many as before. Other gates
 -- stay.
-written : loaded_after (gate (targets.Fuse 2)) Write 7 ≡ gate (targets.Fuse 1)
+written : loaded_after (fault_rule (targets.Fuse 2)) Write 7 ≡ fault_rule (targets.Fuse 1)
 written = refl
 
-was-read : loaded_after (gate (targets.Fuse 2)) Read 7 ≡ gate (targets.Fuse 2)
+was-read : loaded_after (fault_rule (targets.Fuse 2)) Read 7 ≡ fault_rule (targets.Fuse 2)
 was-read = refl
 
 stays : loaded_after dropping Write 7 ≡ dropping
 stays = refl
 
-delays-stay : loaded_after (gate (targets.Delay 1 2 3)) Flush 7 ≡ gate (targets.Delay 1 2 3)
+delays-stay : loaded_after (fault_rule (targets.Delay 1 2 3)) Flush 7 ≡ fault_rule (targets.Delay 1 2 3)
 delays-stay = refl
 
-fails : verdict_of (gate targets.Error) Read 7 ≡ Fail
+fails : rule_verdict (fault_rule targets.Error) Read 7 ≡ Fail
 fails = refl
 
 -- A discard is delayed like a write.
-discarded-later : verdict_of (gate (targets.Delay 1 2 3)) Discard 7 ≡ Delay 2
+discarded-later : rule_verdict (fault_rule (targets.Delay 1 2 3)) Discard 7 ≡ Delay 2
 discarded-later = refl
 
-flushed-later : verdict_of (gate (targets.Delay 1 2 3)) Flush 7 ≡ Delay 3
+flushed-later : rule_verdict (fault_rule (targets.Delay 1 2 3)) Flush 7 ≡ Delay 3
 flushed-later = refl
 
--- A gate with a linear or a dust target passes every call.
-all-passes : verdict_of (gate targets.Linear) Write 7 ≡ Pass
+-- A fault rule with a linear or a dust target passes every call.
+all-passes : rule_verdict (fault_rule targets.Linear) Write 7 ≡ Pass
 all-passes = refl
 
-dust-passes : verdict_of (gate (targets.Dust 512)) Write 7 ≡ Pass
+dust-passes : rule_verdict (fault_rule (targets.Dust 512)) Write 7 ≡ Pass
 dust-passes = refl
 
 -- ---- which layers may drop writes: a flakey one with that feature, and no other
@@ -219,19 +219,19 @@ others-pass = refl
 -- A device that breaks the clause `passes` of `IsDecided`, and a content that breaks `SeenFrom`.
 -- The delay of each kind, by computation.
 
--- A `Gated` over a lower device that is a number, with these counts of faults and lies.
-gated : ℕ → ℕ → ℕ → Gated ℕ ℕ
-gated lower faults lies =
+-- A `Ruled` over a lower device that is a number, with these counts of faults and lies.
+ruled : ℕ → ℕ → ℕ → Ruled ℕ ℕ
+ruled lower faults lies =
     record {
       lower = lower;
-      gate = record { target = Linear; load = 0 };
+      fault_rule = record { target = Linear; load = 0 };
       faults = faults;
       lies = lies;
       kind = 0;
     }
 
 -- If a call passes and the lower device doesn't do it, `IsDecided` refuses it.
-pass_below : IsDecided Pass (λ begun. ⊥) Flushes 5 (Ok 5) (gated 0 0 0) (gated 1 0 0) → ⊥
+pass_below : IsDecided Pass (λ begun. ⊥) Flushes 5 (Ok 5) (ruled 0 0 0) (ruled 1 0 0) → ⊥
 pass_below told = (told.passes refl).0
 
 -- Each kind of call has its own delay, but a discard has the delay of a write.

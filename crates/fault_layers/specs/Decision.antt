@@ -1,4 +1,4 @@
--- `IsDecided`: what a `Gated` device does with a call, given the verdict of its gate.
+-- `IsDecided`: what a `Ruled` device does with a call, given the verdict of its fault rule.
 use Rattle.std.specs.Prelude.{◌≡◌, ◌≤◌, ℕ, Err, Ok, Result}
 use Rattle.bio.specs.declared.outcome.DevError.{DevError}
 use Rattle.bio.specs.declared.outcome.DevError.TheVariants.{Io}
@@ -6,18 +6,18 @@ use Rattle.bio.specs.Moments.{later_by}
 use Rattle.blockdev.specs.View as calls
 use Rattle.blockdev.specs.View.{Call}
 use Rattle.blockdev.specs.OwnCounts.{one_more}
-use Rattle.fault_layers.specs.declared.gate.Kind.{Kind}
-use Rattle.fault_layers.specs.declared.gate.Kind.TheVariants.{Discard, Flush, Read, Write}
-use Rattle.fault_layers.specs.declared.gate.Verdict.{Verdict}
-use Rattle.fault_layers.specs.declared.gate.Verdict.TheVariants.{Delay, Drop, Fail, Pass}
-use Rattle.fault_layers.specs.declared.gated.Gated.{Gated}
+use Rattle.fault_layers.specs.declared.fault_rule.CallKind.{CallKind}
+use Rattle.fault_layers.specs.declared.fault_rule.CallKind.TheVariants.{Discard, Flush, Read, Write}
+use Rattle.fault_layers.specs.declared.fault_rule.CallVerdict.{CallVerdict}
+use Rattle.fault_layers.specs.declared.fault_rule.CallVerdict.TheVariants.{Delay, Drop, Fail, Pass}
+use Rattle.fault_layers.specs.declared.ruled.Ruled.{Ruled}
 
 -- The kind of a call.
-abbrev pub kind_of : Call → Kind
-kind_of (calls.Reads first before after) = Read
-kind_of (calls.Writes first bytes fua) = Write
-kind_of (calls.Discards first count) = Discard
-kind_of calls.Flushes = Flush
+abbrev pub call_kind : Call → CallKind
+call_kind (calls.Reads first before after) = Read
+call_kind (calls.Writes first bytes fua) = Write
+call_kind (calls.Discards first count) = Discard
+call_kind calls.Flushes = Flush
 
 -- If the call is a read, its buffer is unchanged.
 abbrev pub KeepsBuffer : Call → Type 0
@@ -28,8 +28,8 @@ KeepsBuffer calls.Flushes = Unit {0}
 
 -- What a device does with `call` at `now`, given the verdict. `below begun` says that the lower
 -- device did the call at the time `begun`, with the same result.
-pub record IsDecided {D K : Type 0} (verdict : Verdict) (below : ℕ → Type 0) (call : Call) (now : ℕ)
-    (result : Result ℕ DevError) (old new : Gated D K) : Type 0 where
+pub record IsDecided {D K : Type 0} (verdict : CallVerdict) (below : ℕ → Type 0) (call : Call) (now : ℕ)
+    (result : Result ℕ DevError) (old new : Ruled D K) : Type 0 where
   -- If the verdict is Pass, the lower device did the call at `now`, and the counts stay.
   pub passes : verdict ≡ Pass → below now × (new.faults ≡ old.faults) × (new.lies ≡ old.lies)
   -- If the verdict is Delay, the lower device did the call at the delayed time, and the counts

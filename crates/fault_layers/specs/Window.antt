@@ -20,11 +20,11 @@ SeenFrom offset set left =
 abbrev pub window : View → ℕ → ℕ → View
 window v offset length = record {
   size = length;
-  place = record { origin = v.place.origin + offset; disk = v.place.disk };
+  origin = record { sector = v.origin.sector + offset; disk = v.origin.disk };
   content = moved offset v.content;
   crash = SeenFrom offset v.crash;
-  moment = v.moment;
-  since = λ moment. SeenFrom offset (v.since moment);
+  clock = v.clock;
+  since = λ reading. SeenFrom offset (v.since reading);
   faults = v.faults;
   lies = v.lies;
   can_lie = v.can_lie;

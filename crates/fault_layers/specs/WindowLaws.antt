@@ -1,7 +1,7 @@
 -- A range of a lawful device is lawful, and the device law holds for the range's calls.
 use Rattle.std.proofs.Common.{◌≡◌, ℕ, ◌+◌, Bool, List, length, refl, ap, ◌∙◌, inl, inr, arith}
 use Rattle.std.specs.Prelude.{◌/◌, Option, replicate, unwrap_or}
-use Rattle.blockdev.specs.View.{IsLawful, IsRange, Place, View}
+use Rattle.blockdev.specs.View.{IsLawful, IsRange, Origin, View}
 use Rattle.blockdev.specs.Law.{AfterPatch, DeviceFrame, WriteDone, NoLie}
 use Rattle.blockdev.specs.Messages.{Unchanged}
 use Rattle.bio.specs.Content.{Content, Patch, Patched, discards, moved, nothing, put}
@@ -59,17 +59,17 @@ pub unchanged_window : (v w : View) (offset length : ℕ) → Unchanged v w
     → Unchanged (window v offset length) (window w offset length)
 unchanged_window v w offset length same = record {
   size = refl;
-  place =
-      ap (λ (place : Place). record {
-        origin = place.origin + offset;
-        disk = place.disk;
-      }) same.place;
+  origin =
+      ap (λ (p : Origin). record {
+        sector = p.sector + offset;
+        disk = p.disk;
+      }) same.origin;
   content = ap (λ (content : Content). moved offset content) same.content;
   crash = λ left may. (may.0, same.crash may.0 may.1, may.2);
   crash_before = λ left may. (may.0, same.crash_before may.0 may.1, may.2);
-  moment = same.moment;
-  since = λ moment left may. (may.0, same.since moment may.0 may.1, may.2);
-  since_before = λ moment left may. (may.0, same.since_before moment may.0 may.1, may.2);
+  clock = same.clock;
+  since = λ reading left may. (may.0, same.since reading may.0 may.1, may.2);
+  since_before = λ reading left may. (may.0, same.since_before reading may.0 may.1, may.2);
   faults = same.faults;
   lies = same.lies;
   can_lie = same.can_lie;
@@ -82,11 +82,11 @@ lawful_window v offset length fits lawful = record {
   some_sectors = fits.some;
   few_sectors = let a = fits.within in let b = lawful.few_sectors in omega arith;
   current = (v.content, lawful.current, λ sector. refl);
-  nested = λ moment left h may. (may.0, lawful.nested moment may.0 h may.1, may.2);
+  nested = λ reading left h may. (may.0, lawful.nested reading may.0 h may.1, may.2);
   only_now = λ left may. (may.0, lawful.only_now may.0 may.1, may.2);
-  whole = λ moment left h may sector low.
+  whole = λ reading left h may sector low.
       ap (λ (xs : List ℕ). Rattle.std.specs.Prelude.length xs) (may.2 sector)
-      ∙ lawful.whole moment may.0 h may.1 (offset + sector) (let a = fits.within in omega arith);
+      ∙ lawful.whole reading may.0 h may.1 (offset + sector) (let a = fits.within in omega arith);
   faults = lawful.faults;
   lies = lawful.lies;
 }
@@ -97,17 +97,17 @@ goes_window : (offset length : ℕ) (below patch : Patch) (v w : View) → IsShi
     → DeviceFrame patch (window v offset length) (window w offset length)
 goes_window offset length below patch v w shifted goes = record {
   size = refl;
-  place = ap (λ (p : Place). record { origin = p.origin + offset; disk = p.disk }) goes.place;
+  origin = ap (λ (p : Origin). record { sector = p.sector + offset; disk = p.disk }) goes.origin;
   content = patched-shifted offset below patch v.content w.content shifted goes.content;
   crash =
       λ left may. after-shifted offset below patch v.crash left may.0 shifted may.2
       (goes.crash may.0 may.1);
-  moment = goes.moment;
-  gains = λ moment left h may. elim (goes.gains moment may.0 h may.1) [
+  clock = goes.clock;
+  gains = λ reading left h may. elim (goes.gains reading may.0 h may.1) [
     | inl before ↦ inl (may.0, before, may.2)
     | inr during ↦ inr (after-shifted offset below patch v.crash left may.0 shifted may.2 during)
   ];
-  keeps = λ moment left h may. (may.0, goes.keeps moment may.0 h may.1, may.2);
+  keeps = λ reading left h may. (may.0, goes.keeps reading may.0 h may.1, may.2);
   faults = goes.faults;
   lies = goes.lies;
   can_lie = goes.can_lie;

@@ -1,43 +1,43 @@
-//! The error, flakey, fuse and delay layers. Each is a `Gated` over any block device, and its gate
-//! holds the layer's target.
-ghost use Rattle.fault_layers.specs.declared.gate.Target.TheVariants as targets;
+//! The error, flakey, fuse and delay layers. Each is a `Ruled` over any block device, and its fault
+//! rule holds the layer's target.
+ghost use Rattle.fault_layers.specs.declared.fault_rule.Target.TheVariants as targets;
 
-use crate::gate::{Feature, Gate, Target};
-use crate::gated::Gated;
+use crate::fault_rule::{FaultRule, Feature, Target};
+use crate::ruled::Ruled;
 use bio::Ms;
 use blockdev::BlockDev;
 
-/// Marks the `Gated` that is an `ErrorDev`. It holds no data.
+/// Marks the `Ruled` that is an `ErrorDev`. It holds no data.
 #[derive(Clone, Copy, Drop)]
 pub struct AsError {}
 
-/// Marks the `Gated` that is a `Flakey`. It holds no data.
+/// Marks the `Ruled` that is a `Flakey`. It holds no data.
 #[derive(Clone, Copy, Drop)]
 pub struct AsFlakey {}
 
-/// Marks the `Gated` that is a `Fuse`. It holds no data.
+/// Marks the `Ruled` that is a `Fuse`. It holds no data.
 #[derive(Clone, Copy, Drop)]
 pub struct AsFuse {}
 
-/// Marks the `Gated` that is a `Delay`. It holds no data.
+/// Marks the `Ruled` that is a `Delay`. It holds no data.
 #[derive(Clone, Copy, Drop)]
 pub struct AsDelay {}
 
 /// A device that fails each read, write, discard and flush with Io, like the device-mapper target
 /// `error`.
-pub type ErrorDev<D> = Gated<D, AsError>;
+pub type ErrorDev<D> = Ruled<D, AsError>;
 
 /// A device that passes every call for some seconds, then follows its `Feature` for some seconds,
 /// and so on (Linux's Documentation/admin-guide/device-mapper/dm-flakey.rst).
-pub type Flakey<D> = Gated<D, AsFlakey>;
+pub type Flakey<D> = Ruled<D, AsFlakey>;
 
 /// A device that passes a number of writes, discards and flushes, and then fails them. It passes
 /// every read. This isn't a device-mapper target: it is the project's own.
-pub type Fuse<D> = Gated<D, AsFuse>;
+pub type Fuse<D> = Ruled<D, AsFuse>;
 
 /// A device that passes each call to the lower device after a delay (Linux's
 /// Documentation/admin-guide/device-mapper/delay.rst).
-pub type Delay<D> = Gated<D, AsDelay>;
+pub type Delay<D> = Ruled<D, AsDelay>;
 
 impl<D: BlockDev + Drop> ErrorDev<D> {
     ghost use Rattle.std.specs.Prelude.{◌≡◌};
@@ -45,11 +45,11 @@ impl<D: BlockDev + Drop> ErrorDev<D> {
     /// Returns an error device over `lower`.
     pub fn new(lower: D) -> ErrorDev<D>
         ensures lower { result.lower ≡ lower }
-        ensures target { result.gate ≡ record { target = targets.Error; load = 0 } }
+        ensures target { result.fault_rule ≡ record { target = targets.Error; load = 0 } }
         ensures faults { result.faults ≡ 0 }
         ensures lies { result.lies ≡ 0 }
     {
-        Gated::under(lower, Gate::new(Target::Error, Ms::new(0)), AsError {})
+        Ruled::over(lower, FaultRule::new(Target::Error, Ms::new(0)), AsError {})
     }
 }
 
@@ -63,14 +63,14 @@ impl<D: BlockDev + Drop> Flakey<D> {
     pub fn new(lower: D, up: u64, down: u64, feature: Feature, load: Ms) -> Flakey<D>
         requires { IsCycle up down }
         ensures lower { result.lower ≡ lower }
-        ensures cycle { result.gate
+        ensures cycle { result.fault_rule
             ≡ record { target = targets.Flakey up down feature; load = load } }
         ensures faults { result.faults ≡ 0 }
         ensures lies { result.lies ≡ 0 }
     {
-        Gated::under(
+        Ruled::over(
             lower,
-            Gate::new(Target::Flakey { up, down, feature }, load),
+            FaultRule::new(Target::Flakey { up, down, feature }, load),
             AsFlakey {},
         )
     }
@@ -83,13 +83,13 @@ impl<D: BlockDev + Drop> Fuse<D> {
     /// writes, discards or flushes.
     pub fn new(lower: D, calls: u64) -> Fuse<D>
         ensures lower { result.lower ≡ lower }
-        ensures calls { result.gate ≡ record { target = targets.Fuse calls; load = 0 } }
+        ensures calls { result.fault_rule ≡ record { target = targets.Fuse calls; load = 0 } }
         ensures faults { result.faults ≡ 0 }
         ensures lies { result.lies ≡ 0 }
     {
-        Gated::under(
+        Ruled::over(
             lower,
-            Gate::new(Target::Fuse { calls }, Ms::new(0)),
+            FaultRule::new(Target::Fuse { calls }, Ms::new(0)),
             AsFuse {},
         )
     }
@@ -103,7 +103,7 @@ impl<D: BlockDev + Drop> Delay<D> {
     /// milliseconds, the call begins at 2^64 - 1.
     pub fn new(lower: D, read: Ms, write: Ms, flush: Ms) -> Delay<D>
         ensures lower { result.lower ≡ lower }
-        ensures delays { result.gate
+        ensures delays { result.fault_rule
             ≡ record { target = targets.Delay read write flush; load = 0 } }
         ensures faults { result.faults ≡ 0 }
         ensures lies { result.lies ≡ 0 }
@@ -113,6 +113,6 @@ impl<D: BlockDev + Drop> Delay<D> {
             write: write.milliseconds(),
             flush: flush.milliseconds(),
         };
-        Gated::under(lower, Gate::new(target, Ms::new(0)), AsDelay {})
+        Ruled::over(lower, FaultRule::new(target, Ms::new(0)), AsDelay {})
     }
 }

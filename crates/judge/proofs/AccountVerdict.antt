@@ -20,7 +20,7 @@ use Rattle.judge.specs.Accounts.{IsAccount, IsLastFlush, is_held_from, last_belo
 use Rattle.judge.specs.declared.accounts.Account.{Account}
 use Rattle.judge.specs.declared.verdict.Verdict.{Verdict}
 use Rattle.judge.specs.declared.verdict.Verdict.TheVariants.{Yes, No}
-use Rattle.judge.specs.inside.{is_below_last, is_sure_flush, IsFound, is_at_first, could_hold_value}
+use Rattle.judge.specs.inside.{is_below_last, is_sure_flush, IsVerdictOf, is_at_first, could_hold_value}
 use Rattle.judge.specs.Laws.{any_below-last, equal_bytes, held-parts, held_somewhere, kept_last}
 use Rattle.judge.specs.Laws.{kept_within, last_below-found, none_passes, same_bytes}
 use Rattle.judge.specs.Verdicts.{FailsAt, IsLastKept, IsRuledOutBy, IsVerdict}
@@ -110,7 +110,7 @@ pub judged : (events : List CoreEvent) (first image : List ℕ) (account : Accou
     → length image % 512 ≡ 0 → length first ≡ length image
     → is_lawful (length image / 512) events ≡ true
     → IsAccount events (sector_of image) (length image / 512) account
-    → IsFound account.held.items account.last.items (sector_of first) (sector_of image)
+    → IsVerdictOf account.held.items account.last.items (sector_of first) (sector_of image)
     (length image / 512) verdict
     → IsVerdict (length image / 512) events (sector_of first) (sector_of image) verdict
 judged events first image account Yes whole same lawful told found =

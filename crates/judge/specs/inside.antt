@@ -101,7 +101,7 @@ pub record IsLowest (held last : List (Option ℕ)) (first now : Content) (secto
 
 -- the verdict that follows from `held` and `last`: yes if each sector is fine, or else no with the
 -- lowest sector that isn't
-abbrev pub IsFound : List (Option ℕ) → List (Option ℕ) → Content → Content → ℕ → Verdict → Type 0
-IsFound held last first now sectors Yes =
+abbrev pub IsVerdictOf : List (Option ℕ) → List (Option ℕ) → Content → Content → ℕ → Verdict → Type 0
+IsVerdictOf held last first now sectors Yes =
     (sector : ℕ) → sector < sectors → could_hold_value held last first now sector ≡ true
-IsFound held last first now sectors (No sector by) = IsLowest held last first now sectors sector by
+IsVerdictOf held last first now sectors (No sector by) = IsLowest held last first now sectors sector by

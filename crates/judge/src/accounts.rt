@@ -7,7 +7,7 @@ ghost use Rattle.bio.specs.Content.{sector_of};
 ghost use Rattle.std.specs.Str.{bytes_eq};
 ghost use Rattle.judge.specs.Accounts.{IsAccount, IsFirstOf, first_on, place_at};
 ghost use Rattle.judge.specs.Verdicts.{IsVerdict};
-ghost use Rattle.judge.specs.inside.{IsFound, is_at_first, could_hold_value};
+ghost use Rattle.judge.specs.inside.{IsVerdictOf, is_at_first, could_hold_value};
 
 use crate::ends::{end_at, ends_of};
 use crate::held::{SECTOR, held_values, sector_bytes};
@@ -148,7 +148,7 @@ fn lowest_failing(
     image: &[u8],
 ) -> Verdict
     requires same { IsFirstOf (length image.now) first }
-    ensures { IsFound held.now last.now (first_on first.entry (length image.now))
+    ensures { IsVerdictOf held.now last.now (first_on first.entry (length image.now))
         (sector_of image.now) (length image.now / 512) result }
 {
     for sector in 0..image.len() / SECTOR {

@@ -49,7 +49,6 @@ fn note_end(ends: &mut Vec<Option<usize>>, id: u64, place: usize)
     }
 }
 
-// Returns whether the event is an end with success.
 fn is_success(event: &CoreEvent) -> bool
     ensures { result ≡ is_success (Some event.now) }
 {

@@ -17,7 +17,6 @@ use std::alloc::{AllocError, Global};
 /// The size of a sector in bytes.
 pub const SECTOR: usize = SECTOR_BYTES as usize;
 
-/// Returns the bytes of a sector of an image.
 #[tactic(auto, using(crate::proofs::HeldValues::part_is_sector))]
 pub fn sector_bytes(image: &[u8], sector: usize) -> &[u8]
     requires { sector < length image.now / 512 }

@@ -23,6 +23,26 @@ use std::cmp;
 ///
 /// Takes 32 bytes of memory for each sector and 16 for each event. Takes time proportional to the
 /// number of sectors of all requests together. Lack of memory is the only error.
+///
+/// For example (`an_image_that_nothing_wrote` of `device_tests`):
+/// ```
+/// let flush = CoreEvent::Submit(Bio::Flush);
+/// let end = CoreEvent::Complete {
+///     id: Id::new(0),
+///     ok: true,
+/// };
+/// let events = [flush, end];
+/// let image = vec![in rt.alloc(); 7; 512].expect(&rt, "memory");
+/// assert!(rt; image.len() % 512 == 0 && is_lawful(&events, (image.len() / 512) as u64));
+/// let verdict = could_hold(rt.alloc(), &events, 2, First::Zeroes, &image).expect(&rt, "memory");
+/// assert!(rt;
+///     verdict
+///         == Verdict::No {
+///             sector: 0,
+///             by: None
+///         }
+/// );
+/// ```
 pub fn could_hold(
     alloc: Global,
     events: &[CoreEvent],

@@ -5,29 +5,29 @@ use Rattle.std.specs.Prelude.{codes}
 use Rattle.refusals.specs.Words.{words_of}
 use Rattle.bio.specs.Content.{Content}
 use Rattle.blockdev.specs.View.{Flushes, View}
-use Rattle.fault_layers.specs.declared.gate.Feature.TheVariants as features
-use Rattle.fault_layers.specs.declared.gate.Verdict.TheVariants.{Drop}
-use Rattle.fault_layers.specs.declared.gate.Target.{Target}
-use Rattle.fault_layers.specs.declared.gate.Target.TheVariants as targets
+use Rattle.fault_layers.specs.declared.fault_rule.Feature.TheVariants as features
+use Rattle.fault_layers.specs.declared.fault_rule.CallVerdict.TheVariants.{Drop}
+use Rattle.fault_layers.specs.declared.fault_rule.Target.{Target}
+use Rattle.fault_layers.specs.declared.fault_rule.Target.TheVariants as targets
 use Rattle.fault_layers.specs.Verdicts.{IsCycle, Loaded}
 use Rattle.dust_layer.specs.Orders.{IsBlockSize}
 use Rattle.layer_table.specs.declared.layer_spec.LayerSpec.{LayerSpec}
 use Rattle.layer_table.specs.declared.table_error.TableError.{TableError}
 use Rattle.layer_table.specs.declared.table_error.TableError.TheVariants.{WrongCount}
-use Rattle.layer_table.specs.Layers.{top_origin, top_sectors, IsAllowed, IsPut, IsSeenAs, Layer}
+use Rattle.layer_table.specs.Layers.{top_origin, top_sectors, LayersAreAllowed, IsLayerPut, IsSeenAs, Layer}
 use Rattle.layer_table.specs.Layers.{some_drops, AreOver, layer_asked, layers_over, Deciding}
 use Rattle.layer_table.specs.Layers.{Decides, IsPartOf}
 use Rattle.layer_table.specs.TableLines.{IsLayerSpec, line_answer}
 use Rattle.layer_table.specs.Slots.{has_no_gap}
 
-abbrev gate : Target → Loaded
-gate target = record { target = target; load = 3000 }
+abbrev fault_rule : Target → Loaded
+fault_rule target = record { target = target; load = 3000 }
 
 asked : layer_asked (record { length = 8; offset = 4; target = targets.Fuse 3 }) 3000
     ≡ record {
       offset = 4;
       length = 8;
-      rule = Deciding (gate (targets.Fuse 3));
+      rule = Deciding (fault_rule (targets.Fuse 3));
       faults = 0;
       lies = 0;
     }
@@ -58,7 +58,7 @@ four-on =
     record {
       offset = 4;
       length = 8;
-      rule = Deciding (gate targets.Linear);
+      rule = Deciding (fault_rule targets.Linear);
       faults = 0;
       lies = 0;
     }
@@ -68,7 +68,7 @@ two-on =
     record {
       offset = 2;
       length = 3;
-      rule = Deciding (gate (targets.Fuse 3));
+      rule = Deciding (fault_rule (targets.Fuse 3));
       faults = 5;
       lies = 0;
     }
@@ -83,8 +83,8 @@ top-size v = refl
 no-layer : (v : View) → (layers_over [] v).content 1 ≡ v.content 1
 no-layer v = refl
 
--- Views and calls that `IsSeenAs`, `IsPut`, `AreOver`, `IsPartOf` or `Decides` refuses because of
--- one clause. Also some that they accept.
+-- Views and calls that `IsSeenAs`, `IsLayerPut`, `AreOver`, `IsPartOf` or `Decides` refuses because
+-- of one clause. Also some that they accept.
 
 -- content of one value in each sector
 all : ℕ → Content
@@ -99,11 +99,11 @@ still : View
 still =
     record {
       size = 8;
-      place = record { origin = 0; disk = 8 };
+      origin = record { sector = 0; disk = 8 };
       content = all 0;
       crash = Zeroes;
-      moment = 1;
-      since = λ moment. Zeroes;
+      clock = 1;
+      since = λ reading. Zeroes;
       faults = 1;
       lies = 1;
       can_lie = false;
@@ -113,11 +113,11 @@ top : View
 top =
     record {
       size = 4;
-      place = record { origin = 2; disk = 8 };
+      origin = record { sector = 2; disk = 8 };
       content = all 0;
       crash = Zeroes;
-      moment = 1;
-      since = λ moment. Zeroes;
+      clock = 1;
+      since = λ reading. Zeroes;
       faults = 1;
       lies = 1;
       can_lie = false;
@@ -133,7 +133,7 @@ seen_size same = let is = same.size in omega arith
 abbrev four_on : Target → LayerSpec
 four_on target = record { length = 4; offset = 2; target = target }
 
-put_size : IsPut (four_on targets.Linear) still (record top { size = 6 }) → ⊥
+put_size : IsLayerPut (four_on targets.Linear) still (record top { size = 6 }) → ⊥
 unfolding still top
 put_size put = let is = put.size in omega arith
 
@@ -152,9 +152,9 @@ part = record {
   within = omega arith;
   content = λ sector. refl;
   crash = λ left may. (all 0, λ sector. refl, λ sector. sym (may (2 + sector)));
-  moment = refl;
-  since = λ moment left may. (all 0, λ sector. refl, λ sector. sym (may (2 + sector)));
-  only = λ moment seen may. (all 0, λ sector. refl, may);
+  clock = refl;
+  since = λ reading left may. (all 0, λ sector. refl, λ sector. sym (may (2 + sector)));
+  only = λ reading seen may. (all 0, λ sector. refl, may);
 }
 
 part_within : IsPartOf still (record top { size = 7 }) → ⊥
@@ -227,17 +227,17 @@ their-origin = refl
 no-layers : top_sectors 16 [] ≡ 16
 no-layers = refl
 
-they-stand : IsAllowed 12 (eight ∷ three ∷ [])
+they-stand : LayersAreAllowed 12 (eight ∷ three ∷ [])
 they-stand = grind arith
 
 -- past the device's end, and past the end of the layer beneath
-not-on-eleven : IsAllowed 11 (eight ∷ three ∷ []) → ⊥
+not-on-eleven : LayersAreAllowed 11 (eight ∷ three ∷ []) → ⊥
 not-on-eleven stand = let within = stand.1 in omega arith
 
-not-on-three : IsAllowed 16 (three ∷ eight ∷ []) → ⊥
+not-on-three : LayersAreAllowed 16 (three ∷ eight ∷ []) → ⊥
 not-on-three stand = let within = stand.2.1 in omega arith
 
 -- each is one that a line may ask for
 each-is-asked : (sectors : ℕ) (line_layer : LayerSpec) (layers : List LayerSpec)
-    → IsAllowed sectors (line_layer ∷ layers) → IsLayerSpec line_layer
+    → LayersAreAllowed sectors (line_layer ∷ layers) → IsLayerSpec line_layer
 each-is-asked sectors line_layer layers stand = stand.0

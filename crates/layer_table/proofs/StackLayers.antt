@@ -9,13 +9,13 @@ use Rattle.std.specs.List.{AllByRecursion}
 use Rattle.bio.specs.Content.{Content}
 use Rattle.blockdev.specs.declared.device.BlockDev.{Ghosts}
 use Rattle.blockdev.specs.declared.message.MessageError.{MessageError}
-use Rattle.blockdev.specs.View.{Place, View}
+use Rattle.blockdev.specs.View.{Origin, View}
 use Rattle.fault_layers.specs.Window.{SeenFrom}
 use Rattle.layer_table.specs.declared.layer_spec.LayerSpec.{LayerSpec}
 use Rattle.layer_table.specs.declared.slot.Slot.{Slot}
 use Rattle.layer_table.specs.declared.slot.Slot.TheVariants as slots
 use Rattle.layer_table.specs.declared.stack.Stack.{Stack}
-use Rattle.layer_table.specs.Layers.{layers_with, AreOver, IsAllowed, IsPartlyUnder, IsPut, Layer}
+use Rattle.layer_table.specs.Layers.{layers_with, AreOver, LayersAreAllowed, IsPartlyUnder, IsLayerPut, Layer}
 use Rattle.layer_table.specs.Layers.{disk_of, layer_asked, layers_of, layers_under, some_drops}
 use Rattle.layer_table.specs.Layers.{stack_shown, top_origin, top_sectors}
 use Rattle.layer_table.specs.TableLines.{IsLayerSpec}
@@ -32,15 +32,15 @@ pub record AreUnder (specs rest : List LayerSpec) (load : ℕ) (old stack : Stac
   layers : layers_under rest load (layers_of stack) ≡ layers_under specs load (layers_of old)
   disk : disk_of stack ≡ disk_of old
   size : top_sectors (stack_shown stack).size rest ≡ top_sectors (stack_shown old).size specs
-  origin : top_origin (stack_shown stack).place.origin rest
-      ≡ top_origin (stack_shown old).place.origin specs
-  disk_sectors : (stack_shown stack).place.disk ≡ (stack_shown old).place.disk
-  moment : (stack_shown stack).moment ≡ (stack_shown old).moment
+  origin : top_origin (stack_shown stack).origin.sector rest
+      ≡ top_origin (stack_shown old).origin.sector specs
+  disk_sectors : (stack_shown stack).origin.disk ≡ (stack_shown old).origin.disk
+  clock : (stack_shown stack).clock ≡ (stack_shown old).clock
   faults : (stack_shown stack).faults ≡ (stack_shown old).faults
   lies : (stack_shown stack).lies ≡ (stack_shown old).lies
   drops : some_drops specs ≡ false
       → (some_drops rest ≡ false) × ((stack_shown stack).can_lie ≡ (stack_shown old).can_lie)
-  stand : IsAllowed (stack_shown old).size specs → IsAllowed (stack_shown stack).size rest
+  stand : LayersAreAllowed (stack_shown old).size specs → LayersAreAllowed (stack_shown stack).size rest
   count : length (layers_of stack) + length rest ≡ length (layers_of old) + length specs
 
 pub none_under : (specs : List LayerSpec) (load : ℕ) (old : Stack)
@@ -55,7 +55,7 @@ none_under specs load old asked = record {
   size = refl;
   origin = refl;
   disk_sectors = refl;
-  moment = refl;
+  clock = refl;
   faults = refl;
   lies = refl;
   drops = λ none. (none, refl);
@@ -79,7 +79,7 @@ pub one_under : (specs rest : List LayerSpec) (spec : LayerSpec) (above : List L
     (old stack next : Stack) → rest ≡ spec ∷ above
     → AreUnder specs rest load old stack → layers_of next ≡ layer_asked spec load ∷ layers_of stack
     → disk_of next ≡ disk_of stack
-    → IsPut spec (stack_shown stack) (stack_shown next) → AreUnder specs above load old next
+    → IsLayerPut spec (stack_shown stack) (stack_shown next) → AreUnder specs above load old next
 one_under specs rest spec above load old stack next is before layers disk put =
     let are = rw is at before in
     record {
@@ -91,21 +91,21 @@ one_under specs rest spec above load old stack next is before layers disk put =
       layers = rw layers are.layers;
       disk = disk ∙ are.disk;
       size = rw put.size are.size;
-      origin = rw put.place are.origin;
-      disk_sectors = rw put.place are.disk_sectors;
-      moment = put.moment ∙ are.moment;
+      origin = rw put.origin are.origin;
+      disk_sectors = rw put.origin are.disk_sectors;
+      clock = put.clock ∙ are.clock;
       faults = put.faults ∙ are.faults;
       lies = put.lies ∙ are.lies;
       drops = λ none.
           grind (arith, or_parts, or-false);
-      stand = λ stand. subst (λ (n : ℕ). IsAllowed n above) (sym put.size) (are.stand stand).2;
+      stand = λ stand. subst (λ (n : ℕ). LayersAreAllowed n above) (sym put.size) (are.stand stand).2;
       count =
           grind (arith, length);
     }
 
-same_place : (place : Place) (origin : ℕ) {disk : ℕ} → place.origin ≡ origin → place.disk ≡ disk
-    → place ≡ record { origin = origin; disk = disk }
-same_place place origin {disk} here there = rw (sym here, sym there) refl
+same_origin : (origin : Origin) (sector : ℕ) {disk : ℕ} → origin.sector ≡ sector → origin.disk ≡ disk
+    → origin ≡ record { sector = sector; disk = disk }
+same_origin origin sector {disk} here there = rw (sym here, sym there) refl
 
 pub all_under : (specs rest : List LayerSpec) (load : ℕ) (old stack : Stack) → length rest ≡ 0
     → AreUnder specs rest load old stack
@@ -116,8 +116,8 @@ all_under specs [] load old stack none are = (
   are.disk,
   record {
     size = are.size;
-    place = same_place _ _ are.origin are.disk_sectors;
-    moment = are.moment;
+    origin = same_origin _ _ are.origin are.disk_sectors;
+    clock = are.clock;
     faults = are.faults;
     lies = are.lies;
     can_lie = λ none. (are.drops none).1;
@@ -128,7 +128,7 @@ all_under specs (spec ∷ rest) load old stack none are = absurd (omega arith)
 -- If the layers are allowed and the slots suffice, no layer is refused.
 pub none_refused : (specs rest : List LayerSpec) (spec : LayerSpec) (above : List LayerSpec)
     (load : ℕ) (old stack : Stack) → rest ≡ spec ∷ above
-    → AreUnder specs rest load old stack → IsAllowed (stack_shown old).size specs
+    → AreUnder specs rest load old stack → LayersAreAllowed (stack_shown old).size specs
     → length (layers_of old) + length specs ≤ 4
     → ((stack_shown stack).size < spec.offset + spec.length) ⊎ (length (layers_of stack) ≡ 4) → ⊥
 none_refused specs rest spec above load old stack is before stand few (inl past) = grind arith
@@ -184,14 +184,14 @@ layer-stays below (slots.Dusted it) layer text result (slots.Bare after) is = ab
 layer-stays below (slots.Dusted it) layer text result (slots.Decided after) is = absurd is
 layer-stays below (slots.Dusted it) layer text result (slots.Dusted after) is = grind arith
 
-put-shows : (spec : LayerSpec) (v w : View) → IsPut spec v w → (sector : ℕ)
+put-shows : (spec : LayerSpec) (v w : View) → IsLayerPut spec v w → (sector : ℕ)
     → w.content sector ≡ v.content (spec.offset + sector)
 put-shows spec v w put = put.content
 
-put-crash : (spec : LayerSpec) (v w : View) → IsPut spec v w → (left : Content)
+put-crash : (spec : LayerSpec) (v w : View) → IsLayerPut spec v w → (left : Content)
     → w.crash left ↔ SeenFrom spec.offset v.crash left
 put-crash spec v w put = put.crash
 
-put-since : (spec : LayerSpec) (v w : View) → IsPut spec v w → (moment : ℕ) (left : Content)
-    → w.since moment left ↔ SeenFrom spec.offset (v.since moment) left
+put-since : (spec : LayerSpec) (v w : View) → IsLayerPut spec v w → (reading : ℕ) (left : Content)
+    → w.since reading left ↔ SeenFrom spec.offset (v.since reading) left
 put-since spec v w put = put.since

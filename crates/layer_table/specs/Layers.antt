@@ -11,15 +11,15 @@ use Rattle.blockdev.specs.View.{Call, View}
 use Rattle.blockdev.specs.declared.device.BlockDev.{Ghosts}
 use Rattle.blockdev.specs.OwnCounts.{counted, one_more}
 use Rattle.sector_disk.specs.declared.disk.SectorDisk.{SectorDisk}
-use Rattle.sector_disk.specs.DiskView.{Does}
-use Rattle.fault_layers.specs.Decision.{kind_of, KeepsBuffer}
-use Rattle.fault_layers.specs.declared.gate.Verdict.{Verdict}
-use Rattle.fault_layers.specs.declared.gate.Verdict.TheVariants.{Delay, Drop, Fail, Pass}
-use Rattle.fault_layers.specs.declared.gate.Target.{Target}
-use Rattle.fault_layers.specs.declared.gate.Target.TheVariants as targets
-use Rattle.fault_layers.specs.Verdicts.{drops_writes, loaded_after, verdict_of, Loaded}
+use Rattle.sector_disk.specs.DiskView.{DoesOnDisk}
+use Rattle.fault_layers.specs.Decision.{call_kind, KeepsBuffer}
+use Rattle.fault_layers.specs.declared.fault_rule.CallVerdict.{CallVerdict}
+use Rattle.fault_layers.specs.declared.fault_rule.CallVerdict.TheVariants.{Delay, Drop, Fail, Pass}
+use Rattle.fault_layers.specs.declared.fault_rule.Target.{Target}
+use Rattle.fault_layers.specs.declared.fault_rule.Target.TheVariants as targets
+use Rattle.fault_layers.specs.Verdicts.{drops_writes, loaded_after, rule_verdict, Loaded}
 use Rattle.fault_layers.specs.Window.{call_from, window, SeenFrom}
-use Rattle.dust_layer.specs.Walk.{Bad, listed}
+use Rattle.dust_layer.specs.Walk.{Bad, listed_counts}
 use Rattle.dust_layer.specs.declared.mode.Mode.{Mode}
 use Rattle.dust_layer.specs.declared.mode.Mode.TheVariants.{Bypass}
 use Rattle.dust_layer.specs.DustRule.{IsDoneBy}
@@ -47,19 +47,19 @@ top_origin origin (layer ∷ layers) = top_origin (origin + layer.offset) layers
 
 -- The layers can be put over a device of `sectors` sectors. The values of each layer are in their
 -- ranges, and each layer is within the device or the layer below it.
-abbrev pub IsAllowed : ℕ → List LayerSpec → Type 0
-IsAllowed sectors [] = Unit {0}
-IsAllowed sectors (layer ∷ layers) =
-    IsLayerSpec layer × (layer.offset + layer.length ≤ sectors) × IsAllowed layer.length layers
+abbrev pub LayersAreAllowed : ℕ → List LayerSpec → Type 0
+LayersAreAllowed sectors [] = Unit {0}
+LayersAreAllowed sectors (layer ∷ layers) =
+    IsLayerSpec layer × (layer.offset + layer.length ≤ sectors) × LayersAreAllowed layer.length layers
 
 -- whether one of the layers may drop writes, discards and flushes and report them as done
 abbrev pub some_drops : List LayerSpec → Bool
 some_drops = list_any (λ layer. drops_writes layer.target)
 
--- The rule of a layer for its calls. `Deciding`: a gate decides about each call. `Dusting`: calls
--- go by the list `bad` of blocks of `block` sectors, and by the mode.
+-- The rule of a layer for its calls. `Deciding`: a fault rule decides about each call. `Dusting`:
+-- calls go by the list `bad` of blocks of `block` sectors, and by the mode.
 pub data Rule : Type 0 where
-  Deciding : (gate : Loaded) → Rule
+  Deciding : (fault_rule : Loaded) → Rule
   Dusting : (block : ℕ) (bad : Bad) (mode : Mode) → Rule
 
 -- A layer: its range of the device below, its rule, and how many calls the layer itself failed and
@@ -78,7 +78,7 @@ layers_with {D} {g} beneath (slots.Decided layer) =
     record {
       offset = layer.lower.offset;
       length = layer.lower.length;
-      rule = Deciding layer.gate;
+      rule = Deciding layer.fault_rule;
       faults = layer.faults;
       lies = layer.lies;
     } ∷ beneath layer.lower.lower
@@ -86,7 +86,7 @@ layers_with {D} {g} beneath (slots.Dusted layer) =
     record {
       offset = layer.lower.offset;
       length = layer.lower.length;
-      rule = Dusting layer.block (listed layer.bad) layer.mode;
+      rule = Dusting layer.block (listed_counts layer.bad) layer.mode;
       faults = layer.faults;
       lies = 0;
     } ∷ beneath layer.lower.lower
@@ -136,13 +136,13 @@ layers_under (spec ∷ specs) load layers = layers_under specs load (layer_asked
 abbrev pub stack_shown : Stack → View
 stack_shown stack = slot_shown stack.top
 
--- The view of a layer over a device with the view `v`: its range of the device. A gate adds its
--- faults and lies, and a dust layer adds its faults.
+-- The view of a layer over a device with the view `v`: its range of the device. A fault rule adds
+-- its faults and lies, and a dust layer adds its faults.
 abbrev pub layer_over : Rule → Layer → View → View
 layer_over (Dusting block bad mode) layer v =
     counted (window v layer.offset layer.length) layer.faults 0 false
-layer_over (Deciding gate) layer v =
-    counted (window v layer.offset layer.length) layer.faults layer.lies (drops_writes gate.target)
+layer_over (Deciding fault_rule) layer v =
+    counted (window v layer.offset layer.length) layer.faults layer.lies (drops_writes fault_rule.target)
 
 -- the view of layers over a device with the view `v`
 abbrev pub layers_over : List Layer → View → View
@@ -152,24 +152,24 @@ layers_over (layer ∷ layers) v = layer_over layer.rule layer (layers_over laye
 -- two devices with the views `v` and `w` look the same
 pub record IsSeenAs (v w : View) : Type 0 where
   pub size : w.size ≡ v.size
-  pub place : w.place ≡ v.place
+  pub origin : w.origin ≡ v.origin
   pub content : (sector : ℕ) → w.content sector ≡ v.content sector
   pub crash : (left : Content) → w.crash left ↔ v.crash left
-  pub moment : w.moment ≡ v.moment
-  pub since : (moment : ℕ) (left : Content) → w.since moment left ↔ v.since moment left
+  pub clock : w.clock ≡ v.clock
+  pub since : (reading : ℕ) (left : Content) → w.since reading left ↔ v.since reading left
   pub faults : w.faults ≡ v.faults
   pub lies : w.lies ≡ v.lies
   pub can_lie : w.can_lie ≡ v.can_lie
 
 -- `w` is the view of a new layer, as `spec` asks for it, over a device with the view `v`.
-pub record IsPut (spec : LayerSpec) (v w : View) : Type 0 where
+pub record IsLayerPut (spec : LayerSpec) (v w : View) : Type 0 where
   pub size : w.size ≡ spec.length
-  pub place : w.place ≡ record { origin = v.place.origin + spec.offset; disk = v.place.disk }
+  pub origin : w.origin ≡ record { sector = v.origin.sector + spec.offset; disk = v.origin.disk }
   pub content : (sector : ℕ) → w.content sector ≡ v.content (spec.offset + sector)
   pub crash : (left : Content) → w.crash left ↔ SeenFrom spec.offset v.crash left
-  pub moment : w.moment ≡ v.moment
-  pub since : (moment : ℕ) (left : Content)
-      → w.since moment left ↔ SeenFrom spec.offset (v.since moment) left
+  pub clock : w.clock ≡ v.clock
+  pub since : (reading : ℕ) (left : Content)
+      → w.since reading left ↔ SeenFrom spec.offset (v.since reading) left
   pub faults : w.faults ≡ v.faults
   pub lies : w.lies ≡ v.lies
   -- the layer can lie if the device below can, or if the layer's target may drop writes
@@ -179,8 +179,8 @@ pub record IsPut (spec : LayerSpec) (v w : View) : Type 0 where
 -- dropped a call.
 pub record AreOver (specs : List LayerSpec) (v w : View) : Type 0 where
   pub size : w.size ≡ top_sectors v.size specs
-  pub place : w.place ≡ record { origin = top_origin v.place.origin specs; disk = v.place.disk }
-  pub moment : w.moment ≡ v.moment
+  pub origin : w.origin ≡ record { sector = top_origin v.origin.sector specs; disk = v.origin.disk }
+  pub clock : w.clock ≡ v.clock
   pub faults : w.faults ≡ v.faults
   pub lies : w.lies ≡ v.lies
   -- if none of the layers may drop writes, they can lie exactly if the device below can
@@ -202,22 +202,22 @@ pub record IsPartlyUnder (specs : List LayerSpec) (load : ℕ) (old back : Stack
 -- `w` is the view of a part of the disk with the view `v`: the sectors from `w`'s origin on. If a
 -- crash leaves a content of the disk, it may leave that content's part of `w`.
 pub record IsPartOf (v w : View) : Type 0 where
-  pub disk : w.place.disk ≡ v.size
-  pub within : w.place.origin + w.size ≤ v.size
-  pub content : (sector : ℕ) → w.content sector ≡ v.content (w.place.origin + sector)
+  pub disk : w.origin.disk ≡ v.size
+  pub within : w.origin.sector + w.size ≤ v.size
+  pub content : (sector : ℕ) → w.content sector ≡ v.content (w.origin.sector + sector)
   pub crash : (left : Content) → v.crash left
       → (seen : Content) × w.crash seen
-      × ((sector : ℕ) → seen sector ≡ left (w.place.origin + sector))
+      × ((sector : ℕ) → seen sector ≡ left (w.origin.sector + sector))
   -- the clocks of `v` and `w` have the same reading
-  pub moment : w.moment ≡ v.moment
+  pub clock : w.clock ≡ v.clock
   -- For each content of the disk that a crash since a reading of the clock may leave, `w` may be
   -- left with its part. `w` may be left with no other contents.
-  pub since : (moment : ℕ) (left : Content) → v.since moment left
-      → (seen : Content) × w.since moment seen
-      × ((sector : ℕ) → seen sector ≡ left (w.place.origin + sector))
-  pub only : (moment : ℕ) (seen : Content) → w.since moment seen
-      → (left : Content) × v.since moment left
-      × ((sector : ℕ) → seen sector ≡ left (w.place.origin + sector))
+  pub since : (reading : ℕ) (left : Content) → v.since reading left
+      → (seen : Content) × w.since reading seen
+      × ((sector : ℕ) → seen sector ≡ left (w.origin.sector + sector))
+  pub only : (reading : ℕ) (seen : Content) → w.since reading seen
+      → (left : Content) × v.since reading left
+      × ((sector : ℕ) → seen sector ≡ left (w.origin.sector + sector))
 
 -- ---- what calls do
 
@@ -229,9 +229,9 @@ stack_does old call now result new = slot_does old.top call now result new.top
 abbrev pub on_stack : Ghosts Stack
 on_stack = record { shown = stack_shown; does = stack_does }
 
--- The effect of a call at a layer, by its gate's verdict. `below begun` says that the device below
--- did the call at the time `begun`. `same` says that the device below is unchanged.
-pub record Decides (verdict : Verdict) (below : ℕ → Type 0) (same : Type 0) (call : Call) (now : ℕ)
+-- The effect of a call at a layer, by its fault rule's verdict. `below begun` says that the device
+-- below did the call at the time `begun`. `same` says that the device below is unchanged.
+pub record Decides (verdict : CallVerdict) (below : ℕ → Type 0) (same : Type 0) (call : Call) (now : ℕ)
     (result : Result ℕ DevError) (layer after : Layer) : Type 0 where
   pub passes : verdict ≡ Pass
       → below now × (after.faults ≡ layer.faults) × (after.lies ≡ layer.lies)
@@ -271,11 +271,11 @@ pub record Dusts (does : Under → Call → ℕ → Result ℕ DevError → Unde
 -- the effect of a call at a layer by its rule; `does` is the effect of calls of the device below
 abbrev pub DoesAt : (Under → Call → ℕ → Result ℕ DevError → Under → Type 0) → Rule → Under → Call
     → ℕ → Result ℕ DevError → Under → Layer → Layer → Type 0
-DoesAt does (Deciding gate) old call now result new layer after =
-    Decides (verdict_of gate (kind_of call) now)
+DoesAt does (Deciding fault_rule) old call now result new layer after =
+    Decides (rule_verdict fault_rule (call_kind call) now)
     (λ begun. shifted does layer.offset old call begun result new)
     (new ≡ old) call now result layer after
-    × (after.rule ≡ Deciding (loaded_after gate (kind_of call) now))
+    × (after.rule ≡ Deciding (loaded_after fault_rule (call_kind call) now))
 DoesAt does (Dusting block bad mode) old call now result new layer after =
     Dusts (shifted does layer.offset) block bad mode old call now result new layer after
 
@@ -294,7 +294,7 @@ DoesAtTop does (layer ∷ layers) disk call now result (after ∷ others) new =
 -- Calls to the layers below are shifted by the top's offset.
 abbrev pub CountedLayersDo : ℕ → Under → Call → ℕ → Result ℕ DevError → Under → Type 0
 CountedLayersDo zero old call now result new =
-    (old.layers ≡ []) × (new.layers ≡ []) × Does old.disk call now result new.disk
+    (old.layers ≡ []) × (new.layers ≡ []) × DoesOnDisk old.disk call now result new.disk
 CountedLayersDo (suc count) old call now result new =
     DoesAtTop (CountedLayersDo count) old.layers old.disk call now result new.layers new.disk
 
@@ -306,7 +306,7 @@ LayersDo layers disk call now result after new =
 
 -- The effect of a call on layers over a disk, by the top's verdict. `next` is the top after the
 -- call, except for its counts.
-pub record Follows (verdict : Verdict) (next : Layer) (layers : List Layer) (old : SectorDisk)
+pub record Follows (verdict : CallVerdict) (next : Layer) (layers : List Layer) (old : SectorDisk)
     (call : Call) (now : ℕ) (result : Result ℕ DevError)
     (after : List Layer) (new : SectorDisk) : Type 0 where
   -- The layers below did the call at `now`, shifted by the top's offset.

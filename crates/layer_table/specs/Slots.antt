@@ -7,9 +7,9 @@ use Rattle.blockdev.specs.declared.device.BlockDev.{Ghosts}
 use Rattle.blockdev.specs.declared.message.MessageError.{MessageError}
 use Rattle.blockdev.specs.declared.message.MessageError.TheVariants.{BadMessage}
 use Rattle.blockdev.specs.OwnCounts.{counted}
-use Rattle.fault_layers.specs.Decision.{IsDecided, kind_of}
+use Rattle.fault_layers.specs.Decision.{IsDecided, call_kind}
 use Rattle.fault_layers.specs.declared.linear.Linear.{Linear}
-use Rattle.fault_layers.specs.Verdicts.{drops_writes, loaded_after, verdict_of}
+use Rattle.fault_layers.specs.Verdicts.{drops_writes, loaded_after, rule_verdict}
 use Rattle.fault_layers.specs.Window.{call_from, window}
 use Rattle.dust_layer.specs.DustRule.{IsDusted, IsMessageDone}
 use Rattle.layer_table.specs.declared.slot.Slot.{Slot}
@@ -18,7 +18,7 @@ use Rattle.layer_table.specs.declared.slot.Slot.TheVariants as slots
 -- A slot for a layer: its view, and the effect of its calls.
 
 -- A slot without a layer has the view of the device below. A layer shows its range of that device.
--- A gate adds its faults and lies, and a dust layer adds its faults.
+-- A fault rule adds its faults and lies, and a dust layer adds its faults.
 abbrev pub slot_shown : {D : Type 0} {g : Ghosts D} → Slot D g → View
 slot_shown {D} {g} (slots.Bare device) = g.shown device
 slot_shown {D} {g} (slots.Dusted layer) =
@@ -26,27 +26,27 @@ slot_shown {D} {g} (slots.Dusted layer) =
     layer.faults 0 false
 slot_shown {D} {g} (slots.Decided layer) =
     counted (window (g.shown layer.lower.lower) layer.lower.offset layer.lower.length)
-    layer.faults layer.lies (drops_writes layer.gate.target)
+    layer.faults layer.lies (drops_writes layer.fault_rule.target)
 
 -- the device below does the call, shifted by the range's offset, and the range stays
-abbrev pub IsShifted : {D : Type 0} {g : Ghosts D} → Linear D g → Call → ℕ → Result ℕ DevError
+abbrev pub CallIsShifted : {D : Type 0} {g : Ghosts D} → Linear D g → Call → ℕ → Result ℕ DevError
     → Linear D g → Type 0
-IsShifted {D} {g} range call now result after =
+CallIsShifted {D} {g} range call now result after =
     g.does range.lower (call_from range.offset call) now result after.lower
     × (after.offset ≡ range.offset) × (after.length ≡ range.length)
 
--- A slot without a layer passes the call to the device below. A layer with a gate does what the
--- gate decides. A dust layer goes by its mode and list (`IsDusted`).
+-- A slot without a layer passes the call to the device below. A layer with a fault rule does what
+-- the fault rule decides. A dust layer goes by its mode and list (`IsDusted`).
 abbrev pub slot_does : {D : Type 0} {g : Ghosts D} → Slot D g → Call → ℕ → Result ℕ DevError
     → Slot D g → Type 0
 slot_does {D} {g} (slots.Bare device) call now result (slots.Bare after) =
     g.does device call now result after
 slot_does {D} {g} (slots.Decided layer) call now result (slots.Decided after) =
-    IsDecided (verdict_of layer.gate (kind_of call) now)
-    (λ begun. IsShifted layer.lower call begun result after.lower) call now result layer after
-    × (after.gate ≡ loaded_after layer.gate (kind_of call) now)
+    IsDecided (rule_verdict layer.fault_rule (call_kind call) now)
+    (λ begun. CallIsShifted layer.lower call begun result after.lower) call now result layer after
+    × (after.fault_rule ≡ loaded_after layer.fault_rule (call_kind call) now)
 slot_does {D} {g} (slots.Dusted layer) call now result (slots.Dusted after) =
-    IsDusted IsShifted call now result layer after
+    IsDusted CallIsShifted call now result layer after
 slot_does {D} {g} slot call now result after = ⊥
 
 -- whether the slot has a layer
@@ -101,9 +101,9 @@ abbrev pub AnswersBelow : {D : Type 0} {g : Ghosts D}
     → Result (Unit {0}) MessageError → Slot D g → Type 0
 AnswersBelow {D} {g} below (slots.Bare device) layer text result (slots.Bare after) =
     below device layer text result after
-AnswersBelow {D} {g} below (slots.Decided gated) layer text result (slots.Decided after) =
-    RangeAnswers below gated.lower layer text result after.lower × (after.gate ≡ gated.gate)
-    × (after.faults ≡ gated.faults) × (after.lies ≡ gated.lies)
+AnswersBelow {D} {g} below (slots.Decided ruled) layer text result (slots.Decided after) =
+    RangeAnswers below ruled.lower layer text result after.lower × (after.fault_rule ≡ ruled.fault_rule)
+    × (after.faults ≡ ruled.faults) × (after.lies ≡ ruled.lies)
 AnswersBelow {D} {g} below (slots.Dusted dust) layer text result (slots.Dusted after) =
     RangeAnswers below dust.lower layer text result after.lower × (after.block ≡ dust.block)
     × (after.bad ≡ dust.bad) × (after.mode ≡ dust.mode)

@@ -7,12 +7,12 @@ use Rattle.bio.specs.Moments.{later_by}
 use Rattle.blockdev.specs.View.{Call, IsLawful, IsRange, View}
 use Rattle.blockdev.specs.declared.device.BlockDev.{Ghosts}
 use Rattle.sector_disk.specs.declared.disk.SectorDisk.{SectorDisk}
-use Rattle.sector_disk.specs.DiskView.{shown_of, Does}
-use Rattle.fault_layers.specs.Decision.{kind_of}
+use Rattle.sector_disk.specs.DiskView.{shown_of, DoesOnDisk}
+use Rattle.fault_layers.specs.Decision.{call_kind}
 use Rattle.fault_layers.specs.declared.linear.Linear.{Linear}
-use Rattle.fault_layers.specs.Verdicts.{loaded_after, verdict_of, Loaded}
+use Rattle.fault_layers.specs.Verdicts.{loaded_after, rule_verdict, Loaded}
 use Rattle.fault_layers.specs.Window.{call_from, window}
-use Rattle.dust_layer.specs.Walk.{Bad, listed}
+use Rattle.dust_layer.specs.Walk.{Bad, listed_counts}
 use Rattle.dust_layer.specs.CarryLaws.{done_carried}
 use Rattle.dust_layer.specs.declared.dust.Dust.{Dust}
 use Rattle.dust_layer.specs.declared.mode.Mode.{Mode}
@@ -31,9 +31,9 @@ use Rattle.layer_table.specs.Levels.{disk_one, disk_three, disk_two, shape_of, s
 use Rattle.layer_table.specs.Levels.{shape_three, shape_two}
 use Rattle.layer_table.specs.OneLevel.{one_does, one_shown}
 use Rattle.layer_table.specs.SlotLaws.{decided_keeps, dusted_keeps, slot_kept, shape_kept}
-use Rattle.layer_table.specs.SlotLaws.{slot_lawful, IsKept}
+use Rattle.layer_table.specs.SlotLaws.{slot_lawful, KeepsValue}
 use Rattle.layer_table.specs.Slots.{device_of, has_layer, has_no_gap, slot_does, slot_shown}
-use Rattle.layer_table.specs.Slots.{IsShifted}
+use Rattle.layer_table.specs.Slots.{CallIsShifted}
 use Rattle.layer_table.specs.ThreeLevel.{three_does, three_lawful, three_shown}
 use Rattle.layer_table.specs.TwoLevel.{two_does, two_shown}
 
@@ -63,14 +63,14 @@ under_of layers disk device = record { layers = layers device; disk = disk devic
 -- rules with equal parts are equal
 same_dust : {D : Type 0} (layer after : Dust D) → after.block ≡ layer.block
     → after.mode ≡ layer.mode
-    → Dusting after.block (listed after.bad) after.mode
-    ≡ Dusting layer.block (listed after.bad) layer.mode
+    → Dusting after.block (listed_counts after.bad) after.mode
+    ≡ Dusting layer.block (listed_counts after.bad) layer.mode
 same_dust layer after block mode = rw (block, mode) refl
 
 -- If a slot does a call, the layers of the slot do it (`LayersDo`), given the same for the device
 -- below. No call of that device may change its number of layers.
 pub does_with : {D : Type 0} {g : Ghosts D} (layers : D → List Layer) (disk : D → SectorDisk)
-    → IsKept g (λ device. length (layers device))
+    → KeepsValue g (λ device. length (layers device))
     → ((device : D) (call : Call) (now : ℕ) (result : Result ℕ DevError) (after : D)
     → g.does device call now result after
     → LayersDo (layers device) (disk device) call now result (layers after) (disk after))
@@ -89,7 +89,7 @@ does_with {D} {g} layers disk kept below (slots.Decided layer) call now result (
     does = absurd does
 does_with {D} {g} layers disk kept below (slots.Decided layer) call now result
     (slots.Decided after) does =
-    let verdict = verdict_of layer.gate (kind_of call) now in (
+    let verdict = rule_verdict layer.fault_rule (call_kind call) now in (
       (
         record {
           passes = λ is.
@@ -123,10 +123,10 @@ does_with {D} {g} layers disk kept below (slots.Dusted layer) call now result (s
 does_with {D} {g} layers disk kept below (slots.Dusted layer) call now result
     (slots.Dusted after) does = (
       record {
-        list = listed after.bad;
+        list = listed_counts after.bad;
         rule = same_dust layer after does.block does.mode;
         done =
-            (done_carried IsShifted (shifted
+            (done_carried CallIsShifted (shifted
             (CountedLayersDo (length (layers layer.lower.lower))) layer.lower.offset)
             (λ range. (length (layers range.lower) ≡ length (layers layer.lower.lower))
             × (range.offset ≡ layer.lower.offset))
@@ -165,12 +165,12 @@ counted_with {D} {g} layers (slots.Decided layer) = refl
 counted_with {D} {g} layers (slots.Dusted layer) = refl
 
 -- a device without layers keeps their number 0
-pub none_kept : {D : Type 0} (g : Ghosts D) → IsKept g (λ device. length {A = Layer} [])
+pub none_kept : {D : Type 0} (g : Ghosts D) → KeepsValue g (λ device. length {A = Layer} [])
 none_kept g device call now result after did = refl
 
 -- a slot's call keeps the number of layers
 pub count_kept : {D : Type 0} {g : Ghosts D} (layers : D → List Layer)
-    → IsKept g (λ device. length (layers device))
+    → KeepsValue g (λ device. length (layers device))
     → (slot : Slot D g) (call : Call) (now : ℕ) (result : Result ℕ DevError) (after : Slot D g)
     → slot_does slot call now result after
     → length (layers_with layers after) ≡ length (layers_with layers slot)
@@ -189,9 +189,9 @@ disk_part disk = record {
   within = omega arith;
   content = λ sector. ap (shown_of disk).content (omega arith);
   crash = λ left may. (left, may, λ sector. ap left (omega arith));
-  moment = refl;
-  since = λ moment left may. (left, may, λ sector. ap left (omega arith));
-  only = λ moment left may. (left, may, λ sector. ap left (omega arith));
+  clock = refl;
+  since = λ reading left may. (left, may, λ sector. ap left (omega arith));
+  only = λ reading left may. (left, may, λ sector. ap left (omega arith));
 }
 
 -- a range of a part is a part
@@ -207,15 +207,15 @@ window_part v w offset length fits is = record {
         (below.0, below.1, λ sector. refl),
         λ sector. below.2 (offset + sector) ∙ ap left (omega arith),
       );
-  moment = is.moment;
-  since = λ moment left may.
-      let below = is.since moment left may in (
+  clock = is.clock;
+  since = λ reading left may.
+      let below = is.since reading left may in (
         moved offset below.0,
         (below.0, below.1, λ sector. refl),
         λ sector. below.2 (offset + sector) ∙ ap left (omega arith),
       );
-  only = λ moment seen may.
-      let below = is.only moment may.0 may.1 in (
+  only = λ reading seen may.
+      let below = is.only reading may.0 may.1 in (
         below.0,
         below.1,
         λ sector. may.2 sector ∙ (below.2 (offset + sector) ∙ ap below.0 (omega arith)),
@@ -237,7 +237,7 @@ part_with {D} {g} disk below (slots.Dusted layer) =
       within = is.within;
       content = is.content;
       crash = is.crash;
-      moment = is.moment;
+      clock = is.clock;
       since = is.since;
       only = is.only;
     }
@@ -251,7 +251,7 @@ part_with {D} {g} disk below (slots.Decided layer) =
       within = is.within;
       content = is.content;
       crash = is.crash;
-      moment = is.moment;
+      clock = is.clock;
       since = is.since;
       only = is.only;
     }
@@ -283,20 +283,20 @@ at_top : (layer : Layer) (layers : List Layer) (old : SectorDisk) (call : Call) 
     (record { layers = others; disk = new }) layer top
 at_top layer layers old call now result top others new rule is does = grind arith
 
--- If the top layer has a gate, it does what the gate's verdict says (`Follows`).
-pub gate_top : (layer : Layer) (layers : List Layer) (old : SectorDisk) (call : Call) (now : ℕ)
+-- If the top layer has a fault rule, it does what the fault rule's verdict says (`Follows`).
+pub rule_top : (layer : Layer) (layers : List Layer) (old : SectorDisk) (call : Call) (now : ℕ)
     (result : Result ℕ DevError) (after : List Layer)
     (new : SectorDisk)
-    (gate : Loaded) → layer.rule ≡ Deciding gate
+    (fault_rule : Loaded) → layer.rule ≡ Deciding fault_rule
     → LayersDo (layer ∷ layers) old call now result after new
-    → Follows (verdict_of gate (kind_of call) now)
+    → Follows (rule_verdict fault_rule (call_kind call) now)
     (record layer {
       rule = Deciding
-          (loaded_after gate (kind_of call) now);
+          (loaded_after fault_rule (call_kind call) now);
     }) layers old call now result after new
-gate_top layer layers old call now result [] new gate is does = absurd does
-gate_top layer layers old call now result (top ∷ others) new gate is does =
-    let done = at_top layer layers old call now result top others new (Deciding gate) is does in
+rule_top layer layers old call now result [] new fault_rule is does = absurd does
+rule_top layer layers old call now result (top ∷ others) new fault_rule is does =
+    let done = at_top layer layers old call now result top others new (Deciding fault_rule) is does in
     record {
       passes = λ pass.
           grind (
@@ -358,7 +358,7 @@ stack_lawful stack = slot_lawful three_lawful stack.top
 
 -- the disk and the three lower slots, as devices
 abbrev pub on_disk : Ghosts SectorDisk
-on_disk = record { shown = shown_of; does = Does }
+on_disk = record { shown = shown_of; does = DoesOnDisk }
 
 abbrev on_one : Ghosts One
 on_one = record { shown = one_shown; does = one_does }
@@ -371,16 +371,16 @@ on_three = record { shown = three_shown; does = three_does }
 
 -- ---- a call leaves no gap
 
-one_shape : IsKept on_one shape_one
+one_shape : KeepsValue on_one shape_one
 one_shape level call now result after does =
     shape_kept (λ disk. []) (λ disk call now result after did. refl) level.top call now result
     after.top does
 
-two_shape : IsKept on_two shape_two
+two_shape : KeepsValue on_two shape_two
 two_shape level call now result after does =
     shape_kept shape_one one_shape level.top call now result after.top does
 
-three_shape : IsKept on_three shape_three
+three_shape : KeepsValue on_three shape_three
 three_shape level call now result after does =
     shape_kept shape_two two_shape level.top call now result after.top does
 
@@ -412,13 +412,13 @@ shown_by_layers stack =
 
 -- ---- a stack's call is one of its layers over the disk below
 
-one_count : IsKept on_one (λ level. length (layers_one level))
+one_count : KeepsValue on_one (λ level. length (layers_one level))
 one_count level call now result after does = grind (arith, count_kept, none_kept)
 
-two_count : IsKept on_two (λ level. length (layers_two level))
+two_count : KeepsValue on_two (λ level. length (layers_two level))
 two_count level call now result after does = grind (arith, count_kept, one_count)
 
-three_count : IsKept on_three (λ level. length (layers_three level))
+three_count : KeepsValue on_three (λ level. length (layers_three level))
 three_count level call now result after does =
     count_kept layers_two two_count level.top call now result after.top does
 
@@ -452,11 +452,11 @@ done_by_layers old call now result new does =
 pub seen_as : (v w : View) → w ≡ v → IsSeenAs v w
 seen_as v w same = subst (λ (x : View). IsSeenAs x w) same (record {
   size = refl;
-  place = refl;
+  origin = refl;
   content = λ sector. refl;
   crash = λ left. (λ may. may, λ may. may);
-  moment = refl;
-  since = λ moment left. (λ may. may, λ may. may);
+  clock = refl;
+  since = λ reading left. (λ may. may, λ may. may);
   faults = refl;
   lies = refl;
   can_lie = refl;

@@ -20,15 +20,15 @@ use Rattle.refusals.specs.declared.refusal.Refusal.TheVariants as refusals
 use Rattle.refusals.specs.Words.{is_word, number_of, words_of}
 use Rattle.refusals.specs.WordLaws.{decimal_number, number_again, number_low, number_model}
 use Rattle.refusals.specs.WordLaws.{number_read, number_word, words_of_joined}
-use Rattle.fault_layers.specs.declared.gate.Feature.{Feature}
-use Rattle.fault_layers.specs.declared.gate.Feature.TheVariants as features
-use Rattle.fault_layers.specs.declared.gate.Target.{Target}
-use Rattle.fault_layers.specs.declared.gate.Target.TheVariants as targets
+use Rattle.fault_layers.specs.declared.fault_rule.Feature.{Feature}
+use Rattle.fault_layers.specs.declared.fault_rule.Feature.TheVariants as features
+use Rattle.fault_layers.specs.declared.fault_rule.Target.{Target}
+use Rattle.fault_layers.specs.declared.fault_rule.Target.TheVariants as targets
 use Rattle.fault_layers.specs.Verdicts.{HasCycle, IsCycle}
 use Rattle.dust_layer.specs.Orders.{IsBlockSize}
 use Rattle.layer_table.specs.declared.layer_spec.LayerSpec.{LayerSpec}
-use Rattle.layer_table.specs.declared.layer_spec.Name.{Name}
-use Rattle.layer_table.specs.declared.layer_spec.Name.TheVariants as names
+use Rattle.layer_table.specs.declared.layer_spec.TargetName.{TargetName}
+use Rattle.layer_table.specs.declared.layer_spec.TargetName.TheVariants as names
 use Rattle.layer_table.specs.declared.table_error.TableError.{TableError}
 use Rattle.layer_table.specs.declared.table_error.TableError.TheVariants as errors
 
@@ -85,7 +85,7 @@ is_length length = nat_le 1 length && nat_le length 1048576
 abbrev pub is_in_range : LayerSpec → Bool
 is_in_range spec = is_length spec.length && is_target spec.target
 
--- If a target's values are in their ranges, a gate can have the target.
+-- If a target's values are in their ranges, a fault rule can have the target.
 pub has_cycle : (offset : ℕ) (target : Target) → IsTargetInRange offset target → HasCycle target
 has_cycle offset targets.Linear has = tt
 has_cycle offset targets.Error has = tt
@@ -105,8 +105,8 @@ abbrev pub has_number : List (List ℕ) → ℕ → Bool
 has_number words place = is_some (number_of (word_in words place))
 
 -- the number at a place, or 0 if the word there isn't a number
-abbrev pub value_in : List (List ℕ) → ℕ → ℕ
-value_in words place = unwrap_or (number_of (word_in words place)) 0
+abbrev pub number_in : List (List ℕ) → ℕ → ℕ
+number_in words place = unwrap_or (number_of (word_in words place)) 0
 
 -- ---- the words after a flakey line's seconds
 
@@ -133,13 +133,13 @@ feature_in words = feature_of (slice_get words 7) (slice_get words 8)
 -- the delay of the group from word `place` on, or `before` if there is no word at `place`
 abbrev pub later_delay : List (List ℕ) → ℕ → ℕ → ℕ
 later_delay words place before =
-    if is_none (slice_get words place) then before else value_in words (place + 2)
+    if is_none (slice_get words place) then before else number_in words (place + 2)
 
 -- The first group's delay is for reads, the second's for writes, and the third's for flushes. A
 -- missing group has the delay of the group before it.
 abbrev pub delay_in : List (List ℕ) → Target
 delay_in words =
-    let read = value_in words 5 in
+    let read = number_in words 5 in
     let write = later_delay words 6 read in
     targets.Delay read write (later_delay words 9 write)
 
@@ -148,7 +148,7 @@ abbrev pub is_same_place : List (List ℕ) → ℕ → Bool
 is_same_place words place =
     is_none (slice_get words place)
     || (bytes_eq (word_in words 3) (word_in words place)
-    && nat_eq (value_in words 4) (value_in words (place + 1)))
+    && nat_eq (number_in words 4) (number_in words (place + 1)))
 
 -- ---- the rows
 
@@ -161,7 +161,7 @@ pub record Row : Type 0 where
   pub places : ℕ → List ℕ
   pub target : List (List ℕ) → Option Target
 
-abbrev pub row : Name → Row
+abbrev pub row : TargetName → Row
 -- `0 <length> linear <dev> <offset>`
 row names.Linear = record {
   word = codes "linear";
@@ -182,21 +182,21 @@ row names.Flakey = record {
   counts = 7 ∷ 8 ∷ 9 ∷ [];
   places = λ count. 0 ∷ 1 ∷ 4 ∷ 5 ∷ 6 ∷ [];
   target = λ words.
-      option_map (targets.Flakey (value_in words 5) (value_in words 6)) (feature_in words);
+      option_map (targets.Flakey (number_in words 5) (number_in words 6)) (feature_in words);
 }
 -- `0 <length> fuse <dev> <offset> <calls>`
 row names.Fuse = record {
   word = codes "fuse";
   counts = 6 ∷ [];
   places = λ count. 0 ∷ 1 ∷ 4 ∷ 5 ∷ [];
-  target = λ words. Some (targets.Fuse (value_in words 5));
+  target = λ words. Some (targets.Fuse (number_in words 5));
 }
 -- `0 <length> dust <dev> <offset> <blksz>`
 row names.Dust = record {
   word = codes "dust";
   counts = 6 ∷ [];
   places = λ count. 0 ∷ 1 ∷ 4 ∷ 5 ∷ [];
-  target = λ words. Some (targets.Dust (value_in words 5));
+  target = λ words. Some (targets.Dust (number_in words 5));
 }
 -- `0 <length> delay <dev> <offset> <ms>`, and then `<dev> <offset> <ms>` once or twice
 row names.Delay = record {
@@ -210,18 +210,18 @@ row names.Delay = record {
 }
 
 -- the sector of the device below; an error line names no sector
-abbrev pub offset_in : Name → List (List ℕ) → ℕ
+abbrev pub offset_in : TargetName → List (List ℕ) → ℕ
 offset_in names.Error words = 0
-offset_in name words = value_in words 4
+offset_in name words = number_in words 4
 
 -- All groups of a delay line have the same device and offset. Other lines pass.
-abbrev pub has_one_place : Name → List (List ℕ) → Bool
+abbrev pub has_one_place : TargetName → List (List ℕ) → Bool
 has_one_place names.Delay words = is_same_place words 6 && is_same_place words 9
 has_one_place name words = true
 
 -- the target that a word names
-abbrev pub named : List ℕ → Option Name
-named word =
+abbrev pub named_target : List ℕ → Option TargetName
+named_target word =
     if bytes_eq word (row names.Linear).word then Some names.Linear
     else if bytes_eq word (row names.Error).word then Some names.Error
     else if bytes_eq word (row names.Flakey).word then Some names.Flakey
@@ -245,29 +245,29 @@ if_holds true error = Ok tt
 if_holds false error = Err error
 
 -- the line has as many words as a line with this name may have
-abbrev pub has_count : Name → List (List ℕ) → Bool
+abbrev pub has_count : TargetName → List (List ℕ) → Bool
 has_count name words = list_any (nat_eq (length words)) (row name).counts
 
 -- the line's words at the places of numbers are numbers
-abbrev pub has_numbers : Name → List (List ℕ) → Bool
+abbrev pub has_numbers : TargetName → List (List ℕ) → Bool
 has_numbers name words = list_all (has_number words) ((row name).places (length words))
 
 -- the layer with this target that the line asks for
-abbrev pub layer_of : Name → List (List ℕ) → Target → LayerSpec
+abbrev pub layer_of : TargetName → List (List ℕ) → Target → LayerSpec
 layer_of name words target =
-    record { length = value_in words 1; offset = offset_in name words; target = target }
+    record { length = number_in words 1; offset = offset_in name words; target = target }
 
 -- The start is 0, the layer's values are in their ranges, and a delay line has only one device and
 -- offset.
-abbrev pub has_ranges : Name → List (List ℕ) → LayerSpec → Bool
+abbrev pub has_ranges : TargetName → List (List ℕ) → LayerSpec → Bool
 has_ranges name words spec =
-    nat_eq (value_in words 0) 0 && (is_in_range spec && has_one_place name words)
+    nat_eq (number_in words 0) 0 && (is_in_range spec && has_one_place name words)
 
 -- the layer that a line's words ask for, or the error of the first test that they fail
 abbrev pub line_answer : List (List ℕ) → Result LayerSpec TableError
 line_answer words = do
   _ ← if_holds (nat_le 3 (length words)) errors.WrongCount
-  name ← ok_or (named (word_in words 2)) errors.UnknownTarget
+  name ← ok_or (named_target (word_in words 2)) errors.UnknownTarget
   _ ← if_holds (has_count name words) errors.WrongCount
   _ ← if_holds (has_numbers name words) errors.BadNumber
   target ← ok_or ((row name).target words) errors.BadFeature
@@ -321,8 +321,8 @@ abbrev pub line_words : LayerSpec → List (List ℕ)
 line_words spec = codes "0" ∷ decimal spec.length ∷ target_words spec.offset spec.target
 
 -- the canonical text of a layer: its words, with a space between each two
-abbrev pub line_text : LayerSpec → List ℕ
-line_text spec = join_with_byte 32 (line_words spec)
+abbrev pub layer_text : LayerSpec → List ℕ
+layer_text spec = join_with_byte 32 (line_words spec)
 
 -- the words, each after a space
 abbrev pub behind_spaces : List (List ℕ) → List ℕ
@@ -331,11 +331,11 @@ behind_spaces words = flat_map (λ word. 32 ∷ word) words
 -- ---- laws: what is asked for is in its ranges
 
 -- a value is below 2 ^ 64
-value_low : (words : List (List ℕ)) (place : ℕ) → value_in words place < 2 ^ 64
+value_low : (words : List (List ℕ)) (place : ℕ) → number_in words place < 2 ^ 64
 value_low words place = at (number_of (word_in words place)) refl
   where
     at : (number : Option ℕ) → number_of (word_in words place) ≡ number
-        → value_in words place < 2 ^ 64
+        → number_in words place < 2 ^ 64
     at None is = rw is (omega arith)
     at (Some n) is = grind (arith, number_low, number_read)
 
@@ -348,12 +348,12 @@ delays_read : (read write flush : ℕ) → are_delays read write flush ≡ true
 delays_read read write flush is = search rules
 
 -- the last test
-abbrev ranged : Name → List (List ℕ) → Target → Result LayerSpec TableError
+abbrev ranged : TargetName → List (List ℕ) → Target → Result LayerSpec TableError
 ranged name words target =
     if_holds (has_ranges name words (layer_of name words target)) errors.OutOfRange
     >>= λ _. Ok (layer_of name words target)
 
-last_test : (name : Name) (words : List (List ℕ)) (target : Target)
+last_test : (name : TargetName) (words : List (List ℕ)) (target : Target)
     → offset_in name words < 2 ^ 64
     → (is_target target ≡ true → IsTargetInRange (offset_in name words) target)
     → IfOk (ranged name words target) IsLayerSpec
@@ -381,19 +381,19 @@ flakey_in_range words up down (Some feature) =
     last_test names.Flakey words (targets.Flakey up down feature) (value_low words 4)
     (λ is. search rules)
 
-target_in_range : (name : Name) (words : List (List ℕ))
+target_in_range : (name : TargetName) (words : List (List ℕ))
     → IfOk (ok_or ((row name).target words) errors.BadFeature >>= ranged name words) IsLayerSpec
 target_in_range names.Linear words =
     last_test names.Linear words targets.Linear (value_low words 4) (λ is. tt)
 target_in_range names.Error words =
     last_test names.Error words targets.Error (omega arith) (λ is. refl)
 target_in_range names.Flakey words =
-    flakey_in_range words (value_in words 5) (value_in words 6) (feature_in words)
+    flakey_in_range words (number_in words 5) (number_in words 6) (feature_in words)
 target_in_range names.Fuse words =
-    last_test names.Fuse words (targets.Fuse (value_in words 5)) (value_low words 4)
+    last_test names.Fuse words (targets.Fuse (number_in words 5)) (value_low words 4)
     (λ is. value_low words 5)
 target_in_range names.Dust words =
-    last_test names.Dust words (targets.Dust (value_in words 5)) (value_low words 4)
+    last_test names.Dust words (targets.Dust (number_in words 5)) (value_low words 4)
     (λ is. search rules)
 target_in_range names.Delay words =
     last_test names.Delay words (delay_in words) (value_low words 4) (delays_read _ _ _)
@@ -401,7 +401,7 @@ target_in_range names.Delay words =
 pub answer_in_range : (words : List (List ℕ)) → IfOk (line_answer words) IsLayerSpec
 answer_in_range words =
     bound (if_holds (nat_le 3 (length words)) errors.WrongCount) _ (λ _.
-    bound (ok_or (named (word_in words 2)) errors.UnknownTarget) _ (λ name.
+    bound (ok_or (named_target (word_in words 2)) errors.UnknownTarget) _ (λ name.
     bound (if_holds (has_count name words) errors.WrongCount) _ (λ _.
     bound (if_holds (has_numbers name words) errors.BadNumber) _ (λ _.
     target_in_range name words))))
@@ -466,10 +466,10 @@ joined_printable (word ∷ next ∷ words) plain =
     (joined_printable (next ∷ words) plain.1)
 
 -- the decimal digits of `n` are read as `n`
-abbrev IsRead : ℕ → Type 0
-IsRead n = number_of (decimal n) ≡ Some n
+abbrev ReadsNumber : ℕ → Type 0
+ReadsNumber n = number_of (decimal n) ≡ Some n
 
-digits_read : (n : ℕ) → n < 2 ^ 64 → IsRead n
+digits_read : (n : ℕ) → n < 2 ^ 64 → ReadsNumber n
 digits_read n low = number_again (decimal n) n (decimal_number n low)
 
 feature_plain : (feature : Feature) → ArePlain (feature_words feature)
@@ -514,15 +514,15 @@ target_passes offset (targets.Dust bytes) is = search rules
 target_passes offset (targets.Delay read write flush) is = search rules
 
 -- the words ask for the layer
-abbrev Asks : ℕ → ℕ → Target → List (List ℕ) → Type 0
-Asks sectors offset target words =
+abbrev AsksForLayer : ℕ → ℕ → Target → List (List ℕ) → Type 0
+AsksForLayer sectors offset target words =
     line_answer (codes "0" ∷ decimal sectors ∷ words)
     ≡ Ok (record { length = sectors; offset = offset; target = target })
 
-flakey_asked : (sectors offset up down : ℕ) (feature : Feature) → IsRead sectors → IsRead offset
-    → IsRead up → IsRead down → is_length sectors ≡ true
+flakey_asked : (sectors offset up down : ℕ) (feature : Feature) → ReadsNumber sectors → ReadsNumber offset
+    → ReadsNumber up → ReadsNumber down → is_length sectors ≡ true
     → is_target (targets.Flakey up down feature) ≡ true
-    → Asks sectors offset (targets.Flakey up down feature)
+    → AsksForLayer sectors offset (targets.Flakey up down feature)
     (target_words offset (targets.Flakey up down feature))
 flakey_asked sectors offset up down features.None a b c d e f = rw (a, b, c, d, e, f) refl
 flakey_asked sectors offset up down features.ErrorReads a b c d e f = rw (a, b, c, d, e, f) refl
@@ -531,10 +531,10 @@ flakey_asked sectors offset up down features.DropWrites a b c d e f = rw (a, b, 
 
 -- The words of a delay target ask for it. If `t` is true, the read and write delays are equal. If
 -- `u` is true, the write and flush delays are equal.
-delay_asked : (sectors offset read write flush : ℕ) (t u : Bool) → IsRead sectors → IsRead offset
-    → IsRead read → IsRead write → IsRead flush → is_length sectors ≡ true
+delay_asked : (sectors offset read write flush : ℕ) (t u : Bool) → ReadsNumber sectors → ReadsNumber offset
+    → ReadsNumber read → ReadsNumber write → ReadsNumber flush → is_length sectors ≡ true
     → AreDelays read write flush → (t ≡ true → read ≡ write) → (u ≡ true → write ≡ flush)
-    → Asks sectors offset (targets.Delay read write flush) (codes "delay" ∷ set_words offset read
+    → AsksForLayer sectors offset (targets.Delay read write flush) (codes "delay" ∷ set_words offset read
     ++ cond (t && u) [] (set_words offset write ++ cond u [] (set_words offset flush)))
 delay_asked sectors offset read write flush true true a b c d e f has one two =
     grind (arith, le-leb)
@@ -545,9 +545,9 @@ delay_asked sectors offset read write flush true false a b c d e f has one two =
 delay_asked sectors offset read write flush false false a b c d e f has one two =
     grind (arith, target_passes, eq-eqb)
 
-target_asked : (sectors offset : ℕ) (target : Target) → IsRead sectors → IsRead offset
+target_asked : (sectors offset : ℕ) (target : Target) → ReadsNumber sectors → ReadsNumber offset
     → is_length sectors ≡ true → is_target target ≡ true → IsTargetInRange offset target
-    → Asks sectors offset target (target_words offset target)
+    → AsksForLayer sectors offset target (target_words offset target)
 target_asked sectors offset targets.Linear a b e f has = rw (a, b, e) refl
 target_asked sectors offset targets.Error a b e f has = rw (a, e) (let zero = has in cc)
 target_asked sectors offset (targets.Flakey up down feature) a b e f has =
@@ -566,12 +566,12 @@ line_plain spec is =
 
 -- Then the bytes of its canonical text are printable.
 pub printed_plain : (spec : LayerSpec) → IsLayerSpec spec
-    → list_all is_printable (line_text spec) ≡ true
+    → list_all is_printable (layer_text spec) ≡ true
 printed_plain spec is = joined_printable (line_words spec) (line_plain spec is)
 
 -- If a layer's values are in their ranges, its canonical text asks for that layer.
 pub printed_again : (spec : LayerSpec) → IsLayerSpec spec
-    → line_answer (words_of (line_text spec)) ≡ Ok spec
+    → line_answer (words_of (layer_text spec)) ≡ Ok spec
 printed_again spec is =
     let sectors = is.sectors in
     let low : spec.length < 2 ^ 64 = (let few = sectors.few in omega arith) in

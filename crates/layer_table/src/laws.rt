@@ -4,8 +4,8 @@ ghost use Rattle.bio.specs.declared.outcome.DevError.{DevError};
 ghost use Rattle.blockdev.specs.View.{Call};
 ghost use Rattle.dust_layer.specs.declared.mode.Mode.{Mode};
 ghost use Rattle.dust_layer.specs.Walk.{Bad};
-ghost use Rattle.fault_layers.specs.Decision.{kind_of};
-ghost use Rattle.fault_layers.specs.Verdicts.{loaded_after, verdict_of, Loaded};
+ghost use Rattle.fault_layers.specs.Decision.{call_kind};
+ghost use Rattle.fault_layers.specs.Verdicts.{loaded_after, rule_verdict, Loaded};
 ghost use Rattle.sector_disk.specs.declared.disk.SectorDisk.{SectorDisk};
 ghost use Rattle.sector_disk.specs.DiskView.{shown_of};
 ghost use Rattle.layer_table.specs.declared.stack.Stack.{Stack};
@@ -35,16 +35,16 @@ pub fn stacks_do_what_their_layers_do()
         LayersDo (layers_of old) (disk_of old) call now result (layers_of new) (disk_of new) }
 {}
 
-/// If the top layer has a gate, it does what the gate's verdict says. Then it has the gate after
-/// the call.
-#[tactic(auto, using(crate::specs::StackLaws::gate_top))]
-pub fn gates_decide()
+/// If the top layer has a fault rule, it does what the fault rule's verdict says. Then it has the
+/// fault rule after the call.
+#[tactic(auto, using(crate::specs::StackLaws::rule_top))]
+pub fn fault_rules_decide()
     ensures { (layer : Layer) (layers : List Layer) (old : SectorDisk) (call : Call) (now : ℕ)
         (result : Result ℕ DevError) (after : List Layer)
-        (new : SectorDisk) (gate : Loaded) → layer.rule ≡ Deciding gate
+        (new : SectorDisk) (fault_rule : Loaded) → layer.rule ≡ Deciding fault_rule
         → LayersDo (layer ∷ layers) old call now result after new →
-        Follows (verdict_of gate (kind_of call) now)
-        (record layer { rule = Deciding (loaded_after gate (kind_of call) now) })
+        Follows (rule_verdict fault_rule (call_kind call) now)
+        (record layer { rule = Deciding (loaded_after fault_rule (call_kind call) now) })
         layers old call now result after new }
 {}
 

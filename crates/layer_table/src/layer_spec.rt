@@ -4,12 +4,12 @@
 ghost use Rattle.std.specs.Prelude.{◌≡◌, ◌<◌, ◌^◌, ◌++◌, ◌∷◌, [], decimal, nat_eq, IfOk, OnOk};
 ghost use Rattle.std.specs.List.{list_all, list_any};
 ghost use Rattle.refusals.specs.Words.{words_of};
-ghost use Rattle.layer_table.specs.TableLines.{word_in, line_answer, named, offset_in, row};
-ghost use Rattle.layer_table.specs.TableLines.{value_in, has_one_place, is_same_place, later_delay};
+ghost use Rattle.layer_table.specs.TableLines.{word_in, line_answer, named_target, offset_in, row};
+ghost use Rattle.layer_table.specs.TableLines.{number_in, has_one_place, is_same_place, later_delay};
 ghost use Rattle.layer_table.specs.TableLines.{feature_in, delay_in, feature_named, has_number};
 ghost use Rattle.layer_table.specs.TableLines.{are_delays, is_block_size, is_cycle, IsLayerSpec};
 ghost use Rattle.layer_table.specs.TableLines.{is_in_range as is_within};
-ghost use Rattle.layer_table.specs.TableLines.{behind_spaces, feature_words, later_sets, line_text};
+ghost use Rattle.layer_table.specs.TableLines.{behind_spaces, feature_words, later_sets, layer_text};
 ghost use Rattle.layer_table.specs.TableLines.{set_words, target_words};
 
 use crate::table_error::TableError;
@@ -53,7 +53,7 @@ pub fn parse_line(line: &[u8]) -> Result<LayerSpec, TableError>
     if count < 3 {
         return Err(TableError::WrongCount);
     }
-    let name = Name::of_word(word_in(line, 2)).ok_or(TableError::UnknownTarget)?;
+    let name = TargetName::of_word(word_in(line, 2)).ok_or(TableError::UnknownTarget)?;
     if !name.may_have(count) {
         return Err(TableError::WrongCount);
     }
@@ -62,11 +62,11 @@ pub fn parse_line(line: &[u8]) -> Result<LayerSpec, TableError>
     }
     let target = target_in(line, name).ok_or(TableError::BadFeature)?;
     let spec = LayerSpec {
-        length: value_in(line, 1),
+        length: number_in(line, 1),
         offset: offset_in(line, name),
         target,
     };
-    if value_in(line, 0) != 0 || !is_in_range(spec) || !has_one_place(line, name) {
+    if number_in(line, 0) != 0 || !is_in_range(spec) || !has_one_place(line, name) {
         return Err(TableError::OutOfRange);
     }
     Ok(spec)
@@ -95,42 +95,42 @@ fn has_number(line: &[u8], place: usize) -> bool
 
 // Returns the number at `place`, or 0 if the word there isn't a number. `parse_line` tests the
 // numbers first.
-fn value_in(line: &[u8], place: usize) -> u64
-    ensures { result ≡ value_in (words_of line.now) place }
+fn number_in(line: &[u8], place: usize) -> u64
+    ensures { result ≡ number_in (words_of line.now) place }
 {
     number_of(word_in(line, place)).unwrap_or_default()
 }
 
 // Returns the line's offset on the lower device; 0 for an error line.
-fn offset_in(line: &[u8], name: Name) -> u64
+fn offset_in(line: &[u8], name: TargetName) -> u64
     ensures { result ≡ offset_in name (words_of line.now) }
 {
     match name {
-        Name::Error => 0,
-        _ => value_in(line, 4),
+        TargetName::Error => 0,
+        _ => number_in(line, 4),
     }
 }
 
 // Returns the target that a line with the target name `name` asks for, or None if a flakey line's
 // feature doesn't exist.
-fn target_in(line: &[u8], name: Name) -> Option<Target>
+fn target_in(line: &[u8], name: TargetName) -> Option<Target>
     ensures { result ≡ (row name).target (words_of line.now) }
 {
     Some(match name {
-        Name::Linear => Target::Linear,
-        Name::Error => Target::Error,
-        Name::Flakey => Target::Flakey {
-            up: value_in(line, 5),
-            down: value_in(line, 6),
+        TargetName::Linear => Target::Linear,
+        TargetName::Error => Target::Error,
+        TargetName::Flakey => Target::Flakey {
+            up: number_in(line, 5),
+            down: number_in(line, 6),
             feature: feature_in(line)?,
         },
-        Name::Fuse => Target::Fuse {
-            calls: value_in(line, 5),
+        TargetName::Fuse => Target::Fuse {
+            calls: number_in(line, 5),
         },
-        Name::Dust => Target::Dust {
-            block_bytes: value_in(line, 5),
+        TargetName::Dust => Target::Dust {
+            block_bytes: number_in(line, 5),
         },
-        Name::Delay => delay_in(line),
+        TargetName::Delay => delay_in(line),
     })
 }
 
@@ -139,7 +139,7 @@ fn target_in(line: &[u8], name: Name) -> Option<Target>
 fn delay_in(line: &[u8]) -> Target
     ensures { result ≡ delay_in (words_of line.now) }
 {
-    let read = value_in(line, 5);
+    let read = number_in(line, 5);
     let write = later_delay(line, 6, read);
     let flush = later_delay(line, 9, write);
     Target::Delay { read, write, flush }
@@ -154,14 +154,14 @@ fn later_delay(line: &[u8], place: usize, before: u64) -> u64
     if word_at(line, place).is_none() {
         return before;
     }
-    value_in(line, place + 2)
+    number_in(line, place + 2)
 }
 
 // Returns whether all groups of a delay line name the same device and offset. Other lines pass.
-fn has_one_place(line: &[u8], name: Name) -> bool
+fn has_one_place(line: &[u8], name: TargetName) -> bool
     ensures { result ≡ has_one_place name (words_of line.now) }
 {
-    name != Name::Delay || (is_same_place(line, 6) && is_same_place(line, 9))
+    name != TargetName::Delay || (is_same_place(line, 6) && is_same_place(line, 9))
 }
 
 // Returns whether the group from word `place` on has the device and offset of the first group. A
@@ -172,7 +172,7 @@ fn is_same_place(line: &[u8], place: usize) -> bool
 {
     match word_at(line, place) {
         Some(device) => {
-            word_in(line, 3) == device && value_in(line, 4) == value_in(line, place + 1)
+            word_in(line, 3) == device && number_in(line, 4) == number_in(line, place + 1)
         }
         None => true,
     }
@@ -209,7 +209,7 @@ fn feature_of(name: &[u8]) -> Option<Feature>
 // The name of a target. It decides how many words a line may have, and which words are numbers.
 // `parse_line` tests both before it parses a value.
 #[derive(Clone, Copy, Debug, PartialEq, Eq)]
-pub(crate) enum Name {
+pub(crate) enum TargetName {
     Linear,
     Error,
     Flakey,
@@ -218,23 +218,23 @@ pub(crate) enum Name {
     Delay,
 }
 
-impl Name {
+impl TargetName {
     // Returns the target name that `word` is, or None.
-    fn of_word(word: &[u8]) -> Option<Name>
-        ensures { result ≡ named word.now }
+    fn of_word(word: &[u8]) -> Option<TargetName>
+        ensures { result ≡ named_target word.now }
     {
         if word == b"linear".as_slice() {
-            Some(Name::Linear)
+            Some(TargetName::Linear)
         } else if word == b"error".as_slice() {
-            Some(Name::Error)
+            Some(TargetName::Error)
         } else if word == b"flakey".as_slice() {
-            Some(Name::Flakey)
+            Some(TargetName::Flakey)
         } else if word == b"fuse".as_slice() {
-            Some(Name::Fuse)
+            Some(TargetName::Fuse)
         } else if word == b"dust".as_slice() {
-            Some(Name::Dust)
+            Some(TargetName::Dust)
         } else if word == b"delay".as_slice() {
-            Some(Name::Delay)
+            Some(TargetName::Delay)
         } else {
             None
         }
@@ -245,11 +245,11 @@ impl Name {
         ensures { result ≡ list_any (nat_eq count) (row self).counts }
     {
         match self {
-            Name::Linear => count == 5,
-            Name::Error => count == 3,
-            Name::Flakey => (7..=9).contains(&count),
-            Name::Fuse | Name::Dust => count == 6,
-            Name::Delay => count == 6 || count == 9 || count == 12,
+            TargetName::Linear => count == 5,
+            TargetName::Error => count == 3,
+            TargetName::Flakey => (7..=9).contains(&count),
+            TargetName::Fuse | TargetName::Dust => count == 6,
+            TargetName::Delay => count == 6 || count == 9 || count == 12,
         }
     }
 
@@ -258,11 +258,11 @@ impl Name {
         ensures { result.now ≡ (row self).places count }
     {
         match self {
-            Name::Linear => &[0, 1, 4],
-            Name::Error => &[0, 1],
-            Name::Flakey => &[0, 1, 4, 5, 6],
-            Name::Fuse | Name::Dust => &[0, 1, 4, 5],
-            Name::Delay => match count {
+            TargetName::Linear => &[0, 1, 4],
+            TargetName::Error => &[0, 1],
+            TargetName::Flakey => &[0, 1, 4, 5, 6],
+            TargetName::Fuse | TargetName::Dust => &[0, 1, 4, 5],
+            TargetName::Delay => match count {
                 6 => &[0, 1, 4, 5],
                 9 => &[0, 1, 4, 5, 7, 8],
                 _ => &[0, 1, 4, 5, 7, 8, 10, 11],
@@ -313,7 +313,7 @@ fn are_delays(read: u64, write: u64, flush: u64) -> bool
 /// If the layer has no feature, the text has no feature count. If the layer's values are in their
 /// ranges, `parse_line` parses the text as that layer. If an allocation fails, returns an error.
 pub fn push_line(out: &mut Vec<u8>, spec: &LayerSpec) -> Result<(), AllocError>
-    ensures { OnOk result (out.new.items ≡ out.old.items ++ line_text spec.now) }
+    ensures { OnOk result (out.new.items ≡ out.old.items ++ layer_text spec.now) }
 {
     out.push(b'0')?;
     push_value(out, spec.length)?;

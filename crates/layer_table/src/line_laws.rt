@@ -2,7 +2,7 @@
 ghost use Rattle.std.specs.Prelude.{◌≡◌, Ok, ℕ, List};
 ghost use Rattle.refusals.specs.Words.{words_of};
 ghost use Rattle.layer_table.specs.declared.layer_spec.LayerSpec.{LayerSpec};
-ghost use Rattle.layer_table.specs.TableLines.{IsLayerSpec, line_answer, line_text};
+ghost use Rattle.layer_table.specs.TableLines.{IsLayerSpec, line_answer, layer_text};
 
 /// If words ask for a layer, the layer's values are in their ranges.
 pub fn layers_asked_for_are_in_range()
@@ -13,5 +13,5 @@ pub fn layers_asked_for_are_in_range()
 /// If a layer's values are in their ranges, the layer's canonical text asks for that layer.
 pub fn printed_layers_are_asked_for()
     ensures { (spec : LayerSpec) → IsLayerSpec spec
-        → line_answer (words_of (line_text spec)) ≡ Ok spec }
+        → line_answer (words_of (layer_text spec)) ≡ Ok spec }
 {}

@@ -3,15 +3,15 @@
 use bio::{DevError, Ms};
 use blockdev::{BlockDev, Message, MessageError};
 use dust_layer::Dust;
-use fault_layers::{Gated, Linear};
+use fault_layers::{Linear, Ruled};
 
 /// A slot for a layer: only the device below, or one layer over a range of it.
 #[derive(Drop)]
 pub enum Slot<D: BlockDev + Drop> {
     /// The device below.
     Bare(D),
-    /// A range of the device below, with a gate.
-    Decided(Gated<Linear<D>, ()>),
+    /// A range of the device below, with a fault rule.
+    Decided(Ruled<Linear<D>, ()>),
     /// A range of the device below, with bad blocks.
     Dusted(Dust<Linear<D>>),
 }
@@ -99,7 +99,6 @@ impl<D: BlockDev + Drop> Slot<D> {
         }
     }
 
-    /// Returns whether the slot has a layer.
     pub fn has_layer(&self) -> bool
         ensures { result ≡ has_layer self.now }
     {
@@ -130,7 +129,7 @@ impl<D: Message + Drop> Slot<D> {
     {
         match self {
             Slot::Bare(device) => device.message(layer, text),
-            Slot::Decided(gated) => gated.message(layer, text),
+            Slot::Decided(ruled) => ruled.message(layer, text),
             Slot::Dusted(dust) => dust.message_below(layer, text),
         }
     }

@@ -6,4 +6,4 @@ pub mod QueueLock
 pub mod CloseWrites
 pub mod SeatList
 pub mod Examples
-pub mod HolderMoves
+pub mod HandleMoves

@@ -21,14 +21,14 @@ use Rattle.pending.specs.QueueEvent.{log_writes_order}
 use Rattle.lock_state.proofs.Lists.{take_next}
 use Rattle.lock_state.specs.Calls.{done_call}
 use Rattle.lock_state.specs.Comparison.{AllNotesMatch, AreCauses, IsDoneOnce, IsItem, IsNoted}
-use Rattle.lock_state.specs.Comparison.{IsOkAt, MayBeReported, Tells, is_of, is_ok_of, listed, of}
-use Rattle.lock_state.specs.Comparison.{of_from, seen_more, times}
+use Rattle.lock_state.specs.Comparison.{IsOkAt, MayBeReported, AgreesWithCalls, is_of, is_ok_of, listed_item, of}
+use Rattle.lock_state.specs.Comparison.{of_from, seen_more, call_count}
 use Rattle.lock_state.specs.declared.note.Done.{Done}
-use Rattle.lock_state.specs.declared.note.Item.{Item as Placed}
+use Rattle.lock_state.specs.declared.note.LogItem.{LogItem as Placed}
 use Rattle.lock_state.specs.declared.note.Own.{Own}
-use Rattle.lock_state.specs.declared.note.Told.{Told}
-use Rattle.lock_state.specs.declared.served.Seen.{Seen}
-use Rattle.lock_state.specs.declared.served.Seen.TheVariants.{Never, Once, Again}
+use Rattle.lock_state.specs.declared.note.ReportedCauses.{ReportedCauses}
+use Rattle.lock_state.specs.declared.served.CallsSeen.{CallsSeen}
+use Rattle.lock_state.specs.declared.served.CallsSeen.TheVariants.{Never, Once, Again}
 use Rattle.lock_state.specs.History.{one_if, own_at, taken_ids}
 
 -- the seat's events from index `place` on
@@ -124,7 +124,7 @@ take_past [] (suc n) h = refl
 take_past (x ∷ xs) zero h = absurd (omega arith)
 take_past (x ∷ xs) (suc n) h = grind (arith, take_past xs n (omega arith))
 
-pub causes_all : (told : Told) (stop end : Option End) (a b c : Bool)
+pub causes_all : (told : ReportedCauses) (stop end : Option End) (a b c : Bool)
     → MatchBool a (MayBeReported told.full Full stop end) (MayBeReported told.full Full stop end
     → ⊥)
     → MatchBool b (MayBeReported told.device Device stop end)
@@ -203,8 +203,8 @@ pub taken_match : (bytes : ℕ) (core : CoreState) (taken : List ℕ) (k id : �
     (result : Bool) (item : Placed) → core.sector_bytes ≡ bytes → IsTaken core taken k
     → slice_get taken k ≡ Some id → slice_get core.events id ≡ Some event
     → MatchBool result (IsItem bytes item id event) (IsItem bytes item id event → ⊥)
-    → MatchBool result (slice_get (items_of core) k ≡ Some (listed item))
-    (slice_get (items_of core) k ≢ Some (listed item))
+    → MatchBool result (slice_get (items_of core) k ≡ Some (listed_item item))
+    (slice_get (items_of core) k ≢ Some (listed_item item))
 taken_match bytes core taken k id event result item size is there stands = by_cases result
   where
     same_id : is.item.0 ≡ id
@@ -216,15 +216,15 @@ taken_match bytes core taken k id event result item size is there stands = by_ca
 
     by_cases : (result : Bool)
         → MatchBool result (IsItem bytes item id event) (IsItem bytes item id event → ⊥)
-        → MatchBool result (slice_get (items_of core) k ≡ Some (listed item))
-        (slice_get (items_of core) k ≢ Some (listed item))
+        → MatchBool result (slice_get (items_of core) k ≡ Some (listed_item item))
+        (slice_get (items_of core) k ≢ Some (listed_item item))
     by_cases true same =
         is.listed_there ∙ ap Some (λ i. ((same_id ∙ sym same.id) i, (entry ∙ sym same.entry) i))
     by_cases false apart = λ e.
         grind arith
 
 times-push : (id : ℕ) (calls : List Done) (call : Done)
-    → times id (calls ++ call ∷ []) ≡ times id calls + one_if (is_ok_of id call)
+    → call_count id (calls ++ call ∷ []) ≡ call_count id calls + one_if (is_ok_of id call)
 times-push id [] call = omega arith
 times-push id (x ∷ xs) call = let h = times-push id xs call in omega arith
 
@@ -232,12 +232,12 @@ ok_on : (calls : List Done) (call : Done) (id place : ℕ) → IsOkAt calls id p
     → IsOkAt (calls ++ call ∷ []) id place
 ok_on calls call id place at = grind (arith, slice_get-append_front, slice_get_within)
 
-tells-push : (calls : List Done) (call : Done) (id : ℕ) (was : Seen) → Tells calls id was
-    → Tells (calls ++ call ∷ []) id (if is_ok_of id call then seen_more was (length calls) else was)
+tells-push : (calls : List Done) (call : Done) (id : ℕ) (was : CallsSeen) → AgreesWithCalls calls id was
+    → AgreesWithCalls (calls ++ call ∷ []) id (if is_ok_of id call then seen_more was (length calls) else was)
 tells-push calls call id was tells = by_cases (is_ok_of id call) refl was tells
   where
-    by_cases : (b : Bool) → is_ok_of id call ≡ b → (was : Seen) → Tells calls id was
-        → Tells (calls ++ call ∷ []) id (if b then seen_more was (length calls) else was)
+    by_cases : (b : Bool) → is_ok_of id call ≡ b → (was : CallsSeen) → AgreesWithCalls calls id was
+        → AgreesWithCalls (calls ++ call ∷ []) id (if b then seen_more was (length calls) else was)
     by_cases false e Never tells = grind (arith, times-push)
     by_cases false e (Once place)
         tells = grind (arith, times-push, ok_on)
@@ -246,13 +246,13 @@ tells-push calls call id was tells = by_cases (is_ok_of id call) refl was tells
     by_cases true e (Once place) tells = grind (arith, times-push)
     by_cases true e Again tells = let p = times-push id calls call in omega arith
 
-pub all_tell-push : (calls : List Done) (call : Done) (before after : List Seen) (place : ℕ)
+pub all_tell-push : (calls : List Done) (call : Done) (before after : List CallsSeen) (place : ℕ)
     → place ≡ length calls → AllNotesMatch calls before
-    → ((id : ℕ) (seen : Seen) → slice_get after id ≡ Some seen → IsNoted before place call id seen)
+    → ((id : ℕ) (seen : CallsSeen) → slice_get after id ≡ Some seen → IsNoted before place call id seen)
     → AllNotesMatch (calls ++ call ∷ []) after
 all_tell-push calls call before after place is tells noted id seen e =
     let n = noted id seen e in
-    subst (Tells (calls ++ call ∷ []) id)
+    subst (AgreesWithCalls (calls ++ call ∷ []) id)
     (sym (n.now ∙ rw is))
     (tells-push calls call id n.was (tells id n.was n.there))
 
@@ -272,12 +272,12 @@ own_ok call id e ok =
     eqb_same n = eq-eqb n n refl
 
 counted : (id : ℕ) (calls : List Done) (place : ℕ) (call : Done) → slice_get calls place ≡ Some call
-    → is_ok_of id call ≡ true → 1 ≤ times id calls
+    → is_ok_of id call ≡ true → 1 ≤ call_count id calls
 counted id [] place call e ok = absurd (cc)
 counted id (x ∷ xs) zero call e ok = grind arith
 counted id (x ∷ xs) (suc place) call e ok = let h = counted id xs place call e ok in omega arith
 
-one_place : (id : ℕ) (calls : List Done) (p q : ℕ) (c d : Done) → times id calls ≡ 1
+one_place : (id : ℕ) (calls : List Done) (p q : ℕ) (c d : Done) → call_count id calls ≡ 1
     → slice_get calls p ≡ Some c → is_ok_of id c ≡ true → slice_get calls q ≡ Some d
     → is_ok_of id d ≡ true → p ≡ q
 one_place id [] p q c d once e ok f too = absurd (cc)
@@ -292,7 +292,7 @@ one_place id (x ∷ xs) (suc p) zero c d once e ok f too =
     let more = counted id xs p c e ok in absurd (omega arith)
 one_place id (x ∷ xs) (suc p) (suc q) c d once e ok f too =
     let more = counted id xs p c e ok in
-    let rest : times id xs ≡ 1 = omega arith in
+    let rest : call_count id xs ≡ 1 = omega arith in
     ap suc (one_place id xs p q c d rest e ok f too)
 
 is_its : (id : ℕ) (name : Option ℕ) → is_of id name ≡ true → name ≡ Some id
@@ -304,7 +304,7 @@ call_is : (id : ℕ) (call : Done) → is_ok_of id call ≡ true
 call_is id call ok = grind (arith, and_parts, is_its)
 
 pub done_as : (calls : List Done) (id place : ℕ) (event : CoreEvent) (bio : Bio) (call : Done)
-    (result : Bool) → Tells calls id (Once place) → slice_get calls place ≡ Some call
+    (result : Bool) → AgreesWithCalls calls id (Once place) → slice_get calls place ≡ Some call
     → event ≡ Submit bio
     → MatchBool result (bio ≡ call.bio) (bio ≢ call.bio)
     → MatchBool result (IsDoneOnce calls id (Some event)) (IsDoneOnce calls id (Some event) → ⊥)

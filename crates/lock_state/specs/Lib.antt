@@ -5,4 +5,4 @@ pub mod FirstStop
 pub mod History
 pub mod PlacedItems
 pub mod Receipts
-pub mod HolderRules
+pub mod HandleRules

@@ -3,17 +3,17 @@ ghost use Rattle.std.specs.Prelude.{◌≡◌, ◌≢◌, ◌<◌, ◌≤◌, If
 ghost use Rattle.std.specs.Prelude.{slice_get, true};
 ghost use Rattle.log_format.specs.Entries.{is_sector_size};
 ghost use Rattle.pending.specs.CoreState.{items_of};
-ghost use Rattle.lock_state.specs.Comparison.{AreCauses, IsTakenPrefix, Each, Fails, IsItem, IsList};
-ghost use Rattle.lock_state.specs.Comparison.{IsServed, listed, stop_cause_at};
+ghost use Rattle.lock_state.specs.Comparison.{AreCauses, IsTakenPrefix, Each, Fails, IsItem, IsListOfSeat};
+ghost use Rattle.lock_state.specs.Comparison.{IsServed, listed_item, stop_cause_at};
 ghost use Rattle.lock_state.specs.History.{FoundEnd, stop_of};
 
-use crate::compare::{are_causes, are_passed, is_list_of};
+use crate::compare::{are_causes, are_unrecorded, is_list_of};
 use crate::entry_of::is_entry_of;
-use crate::note::{Done, Item};
+use crate::note::{Done, LogItem};
 use crate::part::SeatPart;
 use crate::queue::QueueState;
 use crate::run::Run;
-use crate::served::{Seen, is_served};
+use crate::served::{CallsSeen, is_served};
 use bio::{CoreEvent, End, Id};
 use pending::laws::list_has_what_is_queued;
 use std::alloc::{AllocError, Global};
@@ -21,7 +21,7 @@ use std::alloc::{AllocError, Global};
 impl<R: Run> QueueState<R> {
     /// Returns whether the seat's own list has exactly the seat's events of the history.
     pub fn has_list(&self, seat: &SeatPart<R>) -> bool
-        ensures { MatchBool result (IsList self.now seat.now) (IsList self.now seat.now → ⊥) }
+        ensures { MatchBool result (IsListOfSeat self.now seat.now) (IsListOfSeat self.now seat.now → ⊥) }
     {
         is_list_of(
             self.core.events(),
@@ -31,13 +31,13 @@ impl<R: Run> QueueState<R> {
         )
     }
 
-    /// Returns whether each passed call of the seat found at which event recording ended, and the
-    /// Stop's cause if a Stop ended it.
-    pub fn has_passed(&self, seat: &SeatPart<R>) -> bool
-        ensures { MatchBool result (Each (FoundEnd self.now.core.events) seat.now.passed)
-            (Fails (FoundEnd self.now.core.events) seat.now.passed) }
+    /// Returns whether each unrecorded call of the seat found at which event recording ended, and
+    /// the Stop's cause if a Stop ended it.
+    pub fn has_unrecorded(&self, seat: &SeatPart<R>) -> bool
+        ensures { MatchBool result (Each (FoundEnd self.now.core.events) seat.now.unrecorded)
+            (Fails (FoundEnd self.now.core.events) seat.now.unrecorded) }
     {
-        are_passed(&self.end, self.recorded_stop(), seat.passed.as_slice())
+        are_unrecorded(&self.end, self.recorded_stop(), seat.unrecorded.as_slice())
     }
 
     /// Returns whether each cause that was reported to the seat is `end` or the cause of the first
@@ -58,10 +58,10 @@ impl<R: Run> QueueState<R> {
     }
 
     // Returns whether `item` is the k-th item that was taken.
-    fn is_taken_as(&self, k: usize, item: &Item) -> bool
+    fn is_taken_as(&self, k: usize, item: &LogItem) -> bool
         requires { k < self.now.core.taken }
-        ensures { MatchBool result (slice_get (items_of self.now.core) k ≡ Some (listed item.now))
-            (slice_get (items_of self.now.core) k ≢ Some (listed item.now)) }
+        ensures { MatchBool result (slice_get (items_of self.now.core) k ≡ Some (listed_item item.now))
+            (slice_get (items_of self.now.core) k ≢ Some (listed_item item.now)) }
     {
         // For the prover: this shows that the completion list has each queued item.
         list_has_what_is_queued();
@@ -74,7 +74,7 @@ impl<R: Run> QueueState<R> {
     }
 
     /// Returns whether these items are a prefix of the taken items.
-    pub fn has_taken(&self, placed: &[Item]) -> bool
+    pub fn has_taken(&self, placed: &[LogItem]) -> bool
         ensures { MatchBool result (IsTakenPrefix self.now.core placed.now)
             (IsTakenPrefix self.now.core placed.now → ⊥) }
     {
@@ -104,16 +104,16 @@ impl<R: Run> QueueState<R> {
     }
 
     /// Returns notes for `is_served`, one for each event, or `Err` if memory runs out.
-    pub fn notes(&self, alloc: Global) -> Result<Vec<Seen>, AllocError>
+    pub fn notes(&self, alloc: Global) -> Result<Vec<CallsSeen>, AllocError>
         ensures { IfOk result (λ notes. length notes.items ≡ length self.now.core.events) }
     {
-        vec![in alloc; Seen::Never; self.core.events().len()]
+        vec![in alloc; CallsSeen::Never; self.core.events().len()]
     }
 
     /// Returns whether each request that ended Ok is exactly once among these calls, as a call that
     /// succeeded. The caller lends a note for each event; the values of the notes don't matter.
     /// Allocates nothing.
-    pub fn is_served(&self, calls: &[Done], notes: &mut [Seen]) -> bool
+    pub fn is_served(&self, calls: &[Done], notes: &mut [CallsSeen]) -> bool
         requires { length self.now.core.events ≤ length notes.old }
         ensures { MatchBool result
             (Each (IsServed self.now.core.events calls.now) self.now.core.events)
@@ -146,7 +146,7 @@ fn stop_at(events: &[CoreEvent], place: Id) -> Option<End>
 
 // Returns whether the item has the id `id`, and the entry that `event` has in a log with sectors of
 // `bytes` bytes.
-fn is_item(item: &Item, id: Id, event: &CoreEvent, bytes: u32) -> bool
+fn is_item(item: &LogItem, id: Id, event: &CoreEvent, bytes: u32) -> bool
     requires { is_sector_size bytes ≡ true }
     ensures { MatchBool result (IsItem bytes item.now id event.now)
         (IsItem bytes item.now id event.now → ⊥) }

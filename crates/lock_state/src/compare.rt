@@ -2,12 +2,12 @@
 ghost use Rattle.std.specs.Prelude.{◌≡◌, ◌≢◌, ◌⊎◌, ◌&&◌, MatchBool, Option, Some, slice_get};
 ghost use Rattle.std.specs.Prelude.{length};
 ghost use Rattle.bio.specs.declared.request.Bio.TheVariants.{Discard, Flush, Read, Write};
-ghost use Rattle.lock_state.specs.Comparison.{AreCauses, Each, Fails, MayBeReported, Names, is_of};
+ghost use Rattle.lock_state.specs.Comparison.{AreCauses, Each, Fails, MayBeReported, NamesItem, is_of};
 ghost use Rattle.lock_state.specs.Comparison.{of};
 ghost use Rattle.lock_state.specs.History.{Found, own_at};
 
 use crate::log::Receipt;
-use crate::note::{Item, Own, PassedCall, Told};
+use crate::note::{LogItem, Own, ReportedCauses, UnrecordedCall};
 use crate::run::Run;
 use bio::{Bio, CoreEvent, End, Id};
 
@@ -144,7 +144,6 @@ pub fn is_list_of(events: &[CoreEvent], by: &[Option<u64>], seat: u64, list: &[O
     found == list.len()
 }
 
-// Returns whether the name is the number `seat`.
 fn is_seat(seat: u64, name: Option<u64>) -> bool
     ensures { result ≡ is_of seat name }
 {
@@ -164,21 +163,21 @@ fn is_end(end: &Option<Id>, place: Id) -> bool
     }
 }
 
-// Returns whether a passed call found that recording had ended at event `end`, and found the Stop's
-// cause `stop`.
-fn has_found(end: &Option<Id>, stop: Option<End>, call: &PassedCall) -> bool
+// Returns whether an unrecorded call found that recording had ended at event `end`, and found the
+// Stop's cause `stop`.
+fn has_found(end: &Option<Id>, stop: Option<End>, call: &UnrecordedCall) -> bool
     ensures { MatchBool result (Found end.now stop call.now) (Found end.now stop call.now → ⊥) }
 {
     is_end(end, call.place) && stop == call.stop
 }
 
-/// Returns whether each passed call found that recording had ended at event `end`, and found the
-/// Stop's cause `stop`.
-pub fn are_passed(end: &Option<Id>, stop: Option<End>, passed: &[PassedCall]) -> bool
-    ensures { MatchBool result (Each (Found end.now stop) passed.now)
-        (Fails (Found end.now stop) passed.now) }
+/// Returns whether each unrecorded call found that recording had ended at event `end`, and found
+/// the Stop's cause `stop`.
+pub fn are_unrecorded(end: &Option<Id>, stop: Option<End>, unrecorded: &[UnrecordedCall]) -> bool
+    ensures { MatchBool result (Each (Found end.now stop) unrecorded.now)
+        (Fails (Found end.now stop) unrecorded.now) }
 {
-    for call in passed {
+    for call in unrecorded {
         if !has_found(end, stop, call) {
             return false;
         }
@@ -204,7 +203,7 @@ fn may_be_reported(told: bool, cause: End, stop: Option<End>, end: Option<End>) 
 
 /// Returns whether each cause that was reported to a seat is `stop` or `end`.
 #[tactic(auto, using(crate::proofs::SeatList::causes_all))]
-pub fn are_causes(told: &Told, stop: Option<End>, end: Option<End>) -> bool
+pub fn are_causes(told: &ReportedCauses, stop: Option<End>, end: Option<End>) -> bool
     ensures { MatchBool result (AreCauses told.now stop end) (AreCauses told.now stop end → ⊥) }
 {
     let full = may_be_reported(told.full, End::Full, stop, end);
@@ -221,9 +220,9 @@ fn are_all(one: bool, two: bool, three: bool) -> bool
 }
 
 /// Returns whether a receipt names a settled item that has the receipt's id.
-pub fn names<R: Run>(placed: &[Item], settled: u64, receipt: &Receipt<R>) -> bool
-    ensures { MatchBool result (Names placed.now settled receipt.now)
-        (Names placed.now settled receipt.now → ⊥) }
+pub fn names<R: Run>(placed: &[LogItem], settled: u64, receipt: &Receipt<R>) -> bool
+    ensures { MatchBool result (NamesItem placed.now settled receipt.now)
+        (NamesItem placed.now settled receipt.now → ⊥) }
 {
     if receipt.number() >= settled {
         return false;
@@ -235,9 +234,9 @@ pub fn names<R: Run>(placed: &[Item], settled: u64, receipt: &Receipt<R>) -> boo
 }
 
 /// Returns whether each receipt names a settled item that has the receipt's id.
-pub fn are_named<R: Run>(placed: &[Item], settled: u64, receipts: &[Receipt<R>]) -> bool
-    ensures { MatchBool result (Each (Names placed.now settled) receipts.now)
-        (Fails (Names placed.now settled) receipts.now) }
+pub fn are_named<R: Run>(placed: &[LogItem], settled: u64, receipts: &[Receipt<R>]) -> bool
+    ensures { MatchBool result (Each (NamesItem placed.now settled) receipts.now)
+        (Fails (NamesItem placed.now settled) receipts.now) }
 {
     for receipt in receipts {
         if !names(placed, settled, receipt) {

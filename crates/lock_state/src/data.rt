@@ -6,8 +6,8 @@ ghost use Rattle.bio.specs.Possible.{values_of};
 ghost use Rattle.bio.specs.declared.outcome.DevError.TheVariants.{Memory};
 ghost use Rattle.blockdev.specs.View.{DoesInTurn, Flushes, IsByteRange, Writes};
 ghost use Rattle.bio.specs.Content.{Patched, gather, put, writes};
-ghost use Rattle.lock_state.specs.Calls.{Data, Holds, IsRead, calls_of, done_call};
-ghost use Rattle.lock_state.specs.History.{called};
+ghost use Rattle.lock_state.specs.Calls.{Data, Holds, IsDeviceRead, request_calls, done_call};
+ghost use Rattle.lock_state.specs.History.{part_after_call};
 
 use crate::note::Done;
 use crate::part::SeatPart;
@@ -57,14 +57,14 @@ impl<D: BlockDev + Drop, R: Run> DataState<D, R> {
         requires due { mine.old.due ≡ Some bio.now }
         requires tracked { is_tracked bio.now ≡ true }
         requires checked { check_answer bio.now R.sectors ≡ Ok tt }
-        ensures called { mine.new ≡ called mine.old result }
+        ensures part_after_call { mine.new ≡ part_after_call mine.old result }
 
-        // If the result is Ok, all device calls of the request (`calls_of`) succeeded, and the
+        // If the result is Ok, all device calls of the request (`request_calls`) succeeded, and the
         // request is noted as succeeded.
         ensures done { OnOk result
             (self.new.calls ≡ self.old.calls ++ done_call mine.old.under_way bio.now true ∷ []) }
         ensures does { OnOk result
-            (DoesInTurn D.does now (calls_of bio.now) self.old.device (Ok tt) self.new.device) }
+            (DoesInTurn D.does now (request_calls bio.now) self.old.device (Ok tt) self.new.device) }
 
         // Unless the device lied, each sector that the request covers then has the request's value.
         // Each other sector is unchanged.
@@ -76,7 +76,7 @@ impl<D: BlockDev + Drop, R: Run> DataState<D, R> {
         // request is noted as failed. Or memory for the note ran out, and nothing changed.
         ensures failed { IfErr result (λ error. ((error ≡ Memory) × (self.new ≡ self.old))
             ⊎ ((self.new.calls ≡ self.old.calls ++ done_call mine.old.under_way bio.now false ∷ [])
-            × DoesInTurn D.does now (calls_of bio.now) self.old.device
+            × DoesInTurn D.does now (request_calls bio.now) self.old.device
             (Err error) self.new.device)) }
     {
         let result = self.call(now, mine.under_way, bio);
@@ -92,13 +92,13 @@ impl<D: BlockDev + Drop, R: Run> DataState<D, R> {
         ensures done { OnOk result
             (self.new.calls ≡ self.old.calls ++ done_call id bio.now true ∷ []) }
         ensures does { OnOk result
-            (DoesInTurn D.does now (calls_of bio.now) self.old.device (Ok tt) self.new.device) }
+            (DoesInTurn D.does now (request_calls bio.now) self.old.device (Ok tt) self.new.device) }
         ensures content { OnOk result ((D.shown self.new.device).lies ≡ 0 → (sector : ℕ) →
             (D.shown self.new.device).content sector
             ≡ put (values_of bio.now) (D.shown self.old.device).content sector) }
         ensures failed { IfErr result (λ error. ((error ≡ Memory) × (self.new ≡ self.old))
             ⊎ ((self.new.calls ≡ self.old.calls ++ done_call id bio.now false ∷ [])
-            × DoesInTurn D.does now (calls_of bio.now) self.old.device
+            × DoesInTurn D.does now (request_calls bio.now) self.old.device
             (Err error) self.new.device)) }
     {
         self.done.reserve(1)?;
@@ -122,7 +122,7 @@ impl<D: BlockDev + Drop, R: Run> DataState<D, R> {
             (length buffer.old / 512)) }
         ensures content { (sector : ℕ)
             → (D.shown self.new.device).content sector ≡ (D.shown self.old.device).content sector }
-        ensures does { IsRead D.does now first buffer.old buffer.new self.old.device result
+        ensures does { IsDeviceRead D.does now first buffer.old buffer.new self.old.device result
             self.new.device }
     {
         self.device.read(now, first, buffer)?;
@@ -168,7 +168,7 @@ fn do_request<D: BlockDev>(device: &mut D, now: Ms, bio: &Bio) -> Result<(), Dev
     ensures whole { OnOk result ((D.shown device.new).lies ≡ 0 → (sector : ℕ) →
         (D.shown device.new).content sector
         ≡ put (values_of bio.now) (D.shown device.old).content sector) }
-    ensures does { DoesInTurn D.does now (calls_of bio.now) device.old result device.new }
+    ensures does { DoesInTurn D.does now (request_calls bio.now) device.old result device.new }
 {
     match bio {
         Bio::Write {

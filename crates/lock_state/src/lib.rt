@@ -7,24 +7,24 @@
 #![tactic(auto)]
 
 pub use closing::drain;
-pub use compare::{are_causes, are_named, are_passed, is_list_of, names};
+pub use compare::{are_causes, are_named, are_unrecorded, is_list_of, names};
 pub use data::DataState;
 pub use entry_of::is_entry_of;
-pub use holders::{Fresh, Holder, Keeper, Numbered, Whose};
+pub use handles::{Fresh, Handle, Numbered, Registry, Whose};
 pub use log::{LogParts, LogState, Receipt};
-pub use note::{Done, Item, Own, PassedCall, Told, Unplaced, Unrecorded};
+pub use note::{Done, LogItem, Own, ReportedCauses, Unplaced, Unrecorded, UnrecordedCall};
 pub use part::{Seat, SeatPart, WriterPart};
 pub use queue::{QueueParts, QueueState};
-pub use run::{Ends, Reads, Run, Stops};
-pub use served::{Seen, is_served};
-pub use stop::{FirstStop, Shown, StopPart};
+pub use run::{EndTable, ReadingTable, Run, StopTable};
+pub use served::{CallsSeen, is_served};
+pub use stop::{FirstStop, ShownCause, StopPart};
 
 mod checking;
 mod closing;
 mod compare;
 mod data;
 mod entry_of;
-mod holders;
+mod handles;
 mod log;
 mod note;
 mod part;

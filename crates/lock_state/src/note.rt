@@ -1,6 +1,6 @@
 // What seats note, and why a step is refused.
-use crate::run::{Ends, Run};
-use crate::stop::Shown;
+use crate::run::{EndTable, Run};
+use crate::stop::ShownCause;
 use bio::{Bio, CoreEvent, End, Id};
 use log_format::Entry;
 
@@ -13,7 +13,7 @@ pub struct Own {
 
 /// An entry of the log, with the index of the event that submitted it.
 #[derive(Debug, Drop)]
-pub struct Item {
+pub struct LogItem {
     pub id: Id,
     pub entry: Entry,
 }
@@ -30,14 +30,14 @@ pub struct Done {
 /// A call that was passed to the device without being recorded. `place` is the event at which
 /// recording had ended. `stop` is the cause of the Stop, or None if a Close ended recording.
 #[derive(Clone, Copy, Debug, PartialEq, Eq)]
-pub struct PassedCall {
+pub struct UnrecordedCall {
     pub place: Id,
     pub stop: Option<End>,
 }
 
 /// For each cause, whether it was reported to a seat as the reason for which logging ended.
 #[derive(Clone, Copy, Debug, PartialEq, Eq)]
-pub struct Told {
+pub struct ReportedCauses {
     pub full: bool,
     pub device: bool,
     pub memory: bool,
@@ -58,5 +58,5 @@ pub enum Unplaced<R: Run> {
     /// The list of items has no room. Nothing changed.
     NoRoom,
     /// The log has ended, by this cause.
-    Ended(Shown<Ends<R>>),
+    Ended(ShownCause<EndTable<R>>),
 }

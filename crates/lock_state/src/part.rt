@@ -4,8 +4,8 @@ ghost use Rattle.lock_state.specs.History.{new_part, with_reported_cause, with_c
 ghost use Rattle.lock_state.specs.PlacedItems.{awaited_in, settles_hand};
 
 use crate::compare::same_bio;
-use crate::holders::Holder;
-use crate::note::{Item, Own, PassedCall, Told};
+use crate::handles::Handle;
+use crate::note::{LogItem, Own, ReportedCauses, UnrecordedCall};
 use crate::run::Run;
 use bio::{Bio, DevError, End, Id};
 use std::alloc::Global;
@@ -14,20 +14,20 @@ use std::mem::swap;
 use std::sync::ledger::Share;
 
 /// The part of a seat: its number, its recorded events with their indices, and its request that is
-/// under way. It also has what its passed calls found, and the causes that were reported to it. It
-/// has the request for which the device wasn't called yet, and how the last call ended. So each
+/// under way. It also has what its unrecorded calls found, and the causes that were reported to it.
+/// It has the request for which the device wasn't called yet, and how the last call ended. So each
 /// request is passed to the device at most once, and it ends as its call did.
 #[derive(Drop)]
 pub struct SeatPart<R: Run> {
     pub(crate) number: u64,
     pub(crate) own: Vec<Own>,
-    pub(crate) passed: Vec<PassedCall>,
-    pub(crate) told: Told,
+    pub(crate) unrecorded: Vec<UnrecordedCall>,
+    pub(crate) told: ReportedCauses,
     pub(crate) under_way: Option<Id>,
     pub(crate) due: Option<Bio>,
     pub(crate) made: Result<(), DevError>,
     pub(crate) share: Share<R>,
-    pub(crate) holder: Holder<R>,
+    pub(crate) handle: Handle<R>,
 }
 
 impl<R: Run> Model for SeatPart<R> {
@@ -39,7 +39,7 @@ impl<R: Run> Model for SeatPart<R> {
     ghost view = { λ s. record {
       number = s.number;
       own = s.own.items;
-      passed = s.passed.items;
+      unrecorded = s.unrecorded.items;
       told = s.told;
       under_way = s.under_way;
       due = s.due;
@@ -48,21 +48,21 @@ impl<R: Run> Model for SeatPart<R> {
 
     ghost invariant = { λ s. (s.share.amount ≡ length s.own.items) × (s.share.parts ≡ 1)
         × (IsSome s.under_way → vec_len s.own < vec_capacity s.own)
-        × (s.holder.number ≡ s.number) × (s.holder.held ≡ s.under_way) };
+        × (s.handle.number ≡ s.number) × (s.handle.held ≡ s.under_way) };
 }
 
 impl<R: Run> SeatPart<R> {
     /// Returns the part of a seat with this number, before its first call.
-    pub fn new(alloc: Global, number: u64, share: Share<R>, holder: Holder<R>) -> SeatPart<R>
+    pub fn new(alloc: Global, number: u64, share: Share<R>, handle: Handle<R>) -> SeatPart<R>
         requires share { (share.parts ≡ 1) × (share.amount ≡ 0) }
-        requires holder { (holder.number ≡ number) × (holder.held ≡ None) }
+        requires handle { (handle.number ≡ number) × (handle.held ≡ None) }
         ensures { result ≡ new_part number }
     {
         SeatPart {
             number,
             own: Vec::new(alloc),
-            passed: Vec::new(alloc),
-            told: Told {
+            unrecorded: Vec::new(alloc),
+            told: ReportedCauses {
                 full: false,
                 device: false,
                 memory: false,
@@ -71,7 +71,7 @@ impl<R: Run> SeatPart<R> {
             due: None,
             made: Ok(()),
             share,
-            holder,
+            handle,
         }
     }
 
@@ -92,7 +92,7 @@ impl<R: Run> SeatPart<R> {
         }
     }
 
-    // Exchanges the events and passed calls of two seats, if both have equally many events.
+    // Exchanges the events and unrecorded calls of two seats, if both have equally many events.
     // Otherwise nothing changes.
     fn exchange_calls<C: Run>(&mut self, other: &mut SeatPart<C>) -> bool
         requires idle { (self.old.under_way ≡ None) × (other.old.under_way ≡ None) }
@@ -106,7 +106,7 @@ impl<R: Run> SeatPart<R> {
             return false;
         }
         swap(&mut self.own, &mut other.own);
-        swap(&mut self.passed, &mut other.passed);
+        swap(&mut self.unrecorded, &mut other.unrecorded);
         true
     }
 
@@ -149,7 +149,7 @@ impl<R: Run> Model for Seat<R> {
 }
 
 impl<R: Run> Seat<R> {
-    /// Exchanges the events and passed calls of two seats, if both have equally many events.
+    /// Exchanges the events and unrecorded calls of two seats, if both have equally many events.
     /// Otherwise nothing changes. So a seat can have the list of another recorder's seat, and a
     /// recorder that closes must detect this.
     pub fn exchange_calls<C: Run>(&mut self, other: &mut Seat<C>) -> bool
@@ -167,16 +167,16 @@ impl<R: Run> Seat<R> {
 /// value in contracts is this item.
 #[derive(Drop)]
 pub struct WriterPart<R: Run> {
-    pub(crate) hand: Option<Item>,
+    pub(crate) hand: Option<LogItem>,
     run: PhantomData<R>,
 }
 
 impl<R: Run> Model for WriterPart<R> {
     ghost use Rattle.std.specs.Prelude.{Option};
-    ghost use Rattle.lock_state.specs.declared.note.Item.{Item};
+    ghost use Rattle.lock_state.specs.declared.note.LogItem.{LogItem};
     ghost use Rattle.lock_state.specs.History.{IsReadable};
 
-    ghost Value = { Option Item };
+    ghost Value = { Option LogItem };
 
     ghost view = { λ w. w.hand };
 

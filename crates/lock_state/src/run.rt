@@ -1,5 +1,5 @@
 // The name of one shared recorder.
-use crate::holders::Whose;
+use crate::handles::Whose;
 use std::marker::{Brand, PhantomData};
 use std::sync::ledger::Ledger;
 
@@ -32,42 +32,42 @@ pub trait Run: Ledger + Whose {
 }
 
 /// The name of the table on which a recorder's queue and log agree about the first stop.
-pub struct Stops<R: Run> {
+pub struct StopTable<R: Run> {
     run: PhantomData<R>,
 }
 
-impl<R: Run> Whose for Stops<R> {
+impl<R: Run> Whose for StopTable<R> {
     ghost table = { R.stops };
 }
 
 /// The name of the table on which a recorder's queue and log agree about the log's end.
-pub struct Ends<R: Run> {
+pub struct EndTable<R: Run> {
     run: PhantomData<R>,
 }
 
-impl<R: Run> Whose for Ends<R> {
+impl<R: Run> Whose for EndTable<R> {
     ghost table = { R.ends };
 }
 
 /// The name of the table on which a recorder's log and receipts agree about when each receipt was
 /// made.
-pub struct Reads<R: Run> {
+pub struct ReadingTable<R: Run> {
     run: PhantomData<R>,
 }
 
-impl<R: Run> Whose for Reads<R> {
+impl<R: Run> Whose for ReadingTable<R> {
     ghost table = { R.reads };
 }
 
 impl Run for Brand {
     ghost use Rattle.std.specs.Prelude.{false};
-    ghost use Rattle.lock_state.specs.HolderRules.{no_table};
+    ghost use Rattle.lock_state.specs.HandleRules.{blank_table};
 
-    ghost stops = { no_table };
+    ghost stops = { blank_table };
 
-    ghost ends = { no_table };
+    ghost ends = { blank_table };
 
-    ghost reads = { no_table };
+    ghost reads = { blank_table };
 
     ghost sectors = { 0 };
 
@@ -75,7 +75,7 @@ impl Run for Brand {
 
     ghost log = { record {
       size = 0;
-      place = record { origin = 0; disk = 0 };
+      origin = record { sector = 0; disk = 0 };
       can_lie = false;
       lies = 0;
       faults = 0;

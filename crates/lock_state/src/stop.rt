@@ -3,81 +3,80 @@ ghost use Rattle.std.specs.Prelude.{◌≡◌, ◌⊎◌, [], Option, false, tru
 ghost use Rattle.refusals.specs.declared.run_error.End.{End as Cause};
 ghost use Rattle.refusals.specs.declared.run_error.End.TheVariants.{Memory};
 ghost use Rattle.lock_state.specs.History.{first_cause};
-ghost use Rattle.lock_state.specs.FirstStop.{HasStopCause, IsShown, end_number};
+ghost use Rattle.lock_state.specs.FirstStop.{HasStopCause, IsShown, cause_number};
 
-use crate::holders::{Fresh, Holder, Keeper, Whose};
-use crate::run::{Ends, Run, Stops};
+use crate::handles::{Fresh, Handle, Registry, Whose};
+use crate::run::{EndTable, Run, StopTable};
 use bio::End;
 use std::marker::Model;
 
 /// A cause that was shown: the cause of the first stop, or of the log's end. Its value in contracts
 /// is the cause. Only `QueueState::show_stop` and `LogState::place` return one.
 #[derive(Drop)]
-pub struct Shown<W: Whose> {
+pub struct ShownCause<W: Whose> {
     cause: End,
-    holder: Holder<W>,
+    handle: Handle<W>,
 }
 
-impl<W: Whose> Model for Shown<W> {
+impl<W: Whose> Model for ShownCause<W> {
     ghost use Rattle.std.specs.Prelude.{◌≡◌, Some};
     ghost use Rattle.refusals.specs.declared.run_error.End.{End};
-    ghost use Rattle.lock_state.specs.FirstStop.{end_number};
+    ghost use Rattle.lock_state.specs.FirstStop.{cause_number};
 
     ghost Value = { End };
 
     ghost view = { λ s. s.cause };
 
-    ghost invariant = { λ s. s.holder.held ≡ Some (end_number s.cause) };
+    ghost invariant = { λ s. s.handle.held ≡ Some (cause_number s.cause) };
 }
 
-impl<W: Whose> Shown<W> {
-    /// Returns the cause.
+impl<W: Whose> ShownCause<W> {
     pub fn cause(&self) -> End
         ensures { result ≡ self.now }
     {
         self.cause
     }
 
-    // Shows this cause to a new holder. The keeper hasn't shown another cause.
-    pub(crate) fn new(keeper: &mut Keeper<W>, cause: End) -> Shown<W>
-        requires { IsShown (Some cause) keeper.old }
-        ensures shown { IsShown (Some cause) keeper.new }
+    // Shows this cause to a new handle. The registry hasn't shown another cause.
+    pub(crate) fn new(registry: &mut Registry<W>, cause: End) -> ShownCause<W>
+        requires { IsShown (Some cause) registry.old }
+        ensures shown { IsShown (Some cause) registry.new }
         ensures cause { result ≡ cause }
     {
-        let holder = keeper.enrol();
-        Shown::to(holder, keeper, cause)
+        let handle = registry.enrol();
+        ShownCause::to(handle, registry, cause)
     }
 
-    // Shows this cause to the holder. The keeper hasn't shown another cause.
-    fn to(holder: Holder<W>, keeper: &mut Keeper<W>, cause: End) -> Shown<W>
-        requires { IsShown (Some cause) keeper.old }
-        ensures shown { IsShown (Some cause) keeper.new }
+    // Shows this cause to the handle. The registry hasn't shown another cause.
+    fn to(handle: Handle<W>, registry: &mut Registry<W>, cause: End) -> ShownCause<W>
+        requires { IsShown (Some cause) registry.old }
+        ensures shown { IsShown (Some cause) registry.new }
         ensures cause { result ≡ cause }
     {
-        let mut holder = holder;
-        keeper.begin(&mut holder, number_of(cause));
-        Shown { cause, holder }
+        let mut handle = handle;
+        registry.begin(&mut handle, number_of(cause));
+        ShownCause { cause, handle }
     }
 
-    // Confirms that the keeper shows this cause, if the keeper shows only one cause. Nothing
+    // Confirms that the registry shows this cause, if the registry shows only one cause. Nothing
     // changes.
-    pub(crate) fn confirm(&mut self, keeper: &mut Keeper<W>)
-        ensures same { (self.new ≡ self.old) × (keeper.new ≡ keeper.old) }
-        ensures shown { (shown : Option Cause) → IsShown shown keeper.old
+    pub(crate) fn confirm(&mut self, registry: &mut Registry<W>)
+        ensures same { (self.new ≡ self.old) × (registry.new ≡ registry.old) }
+        ensures shown { (shown : Option Cause) → IsShown shown registry.old
             → shown ≡ Some self.old }
     {
-        keeper.agree(&mut self.holder);
+        registry.agree(&mut self.handle);
     }
 }
 
-/// The cause of the first stop, if there was one; this is also the value in contracts. A keeper
+/// The cause of the first stop, if there was one; this is also the value in contracts. A registry
 /// knows whether the cause was shown to the writer. Unless the cause is Memory, it is the cause of
 /// the log's end, which the log has shown.
 #[derive(Drop)]
 pub struct FirstStop<R: Run> {
     cause: Option<End>,
-    ended: Option<Shown<Ends<R>>>,
-    keeper: Keeper<Stops<R>>,
+    ended: Option<ShownCause<EndTable<R>>>,
+    registry: Registry<StopTable<R>>,
 }
 
 impl<R: Run> Model for FirstStop<R> {
@@ -89,14 +88,14 @@ impl<R: Run> Model for FirstStop<R> {
 
     ghost view = { λ s. s.cause };
 
-    ghost invariant = { λ s. IsShown s.cause s.keeper × HasStopCause s.cause s.ended };
+    ghost invariant = { λ s. IsShown s.cause s.registry × HasStopCause s.cause s.ended };
 }
 
 /// The writer's right to be shown the first stop, once. Its value in contracts is whether the right
 /// is unused.
 #[derive(Drop)]
 pub struct StopPart<R: Run> {
-    holder: Option<Holder<Stops<R>>>,
+    handle: Option<Handle<StopTable<R>>>,
 }
 
 impl<R: Run> Model for StopPart<R> {
@@ -104,7 +103,7 @@ impl<R: Run> Model for StopPart<R> {
 
     ghost Value = { Bool };
 
-    ghost view = { λ p. is_some p.holder };
+    ghost view = { λ p. is_some p.handle };
 }
 
 impl<R: Run> FirstStop<R> {
@@ -114,16 +113,16 @@ impl<R: Run> FirstStop<R> {
         ensures stop { result.0 ≡ None }
         ensures part { result.1 ≡ true }
     {
-        let mut keeper = fresh.named::<Stops<R>>();
-        let holder = keeper.enrol();
+        let mut registry = fresh.named::<StopTable<R>>();
+        let handle = registry.enrol();
         (
             FirstStop {
                 cause: None,
                 ended: None,
-                keeper,
+                registry,
             },
             StopPart {
-                holder: Some(holder),
+                handle: Some(handle),
             },
         )
     }
@@ -137,7 +136,7 @@ impl<R: Run> FirstStop<R> {
 
     // Stores the cause of a stop: Memory, or the cause of the log's end, which was shown. If there
     // was an earlier stop, its cause stays.
-    pub(crate) fn keep(&mut self, cause: End, ended: Option<Shown<Ends<R>>>)
+    pub(crate) fn keep(&mut self, cause: End, ended: Option<ShownCause<EndTable<R>>>)
         requires { (cause ≡ Memory) ⊎ (ended ≡ Some cause) }
         ensures { self.new ≡ first_cause self.old (Some cause) }
     {
@@ -149,7 +148,7 @@ impl<R: Run> FirstStop<R> {
 
     /// Shows the first stop to the writer. Returns None if there is no stop, or if the stop was
     /// shown before.
-    pub fn show(&mut self, mine: &mut StopPart<R>) -> Option<Shown<Stops<R>>>
+    pub fn show(&mut self, mine: &mut StopPart<R>) -> Option<ShownCause<StopTable<R>>>
         ensures same { self.new ≡ self.old }
         ensures shown { IfSome result (λ cause. self.old ≡ Some cause) }
         ensures none { result ≡ None → (self.old ≡ None) ⊎ (mine.old ≡ false) }
@@ -159,23 +158,23 @@ impl<R: Run> FirstStop<R> {
         let Some(cause) = self.cause else {
             return None;
         };
-        let Some(holder) = mine.holder.take() else {
+        let Some(handle) = mine.handle.take() else {
             return None;
         };
-        Some(Shown::to(holder, &mut self.keeper, cause))
+        Some(ShownCause::to(handle, &mut self.registry, cause))
     }
 
     /// Confirms that the stop that was shown to the writer is the first stop. Nothing changes.
-    pub fn confirm(&mut self, stopped: &mut Shown<Stops<R>>)
+    pub fn confirm(&mut self, stopped: &mut ShownCause<StopTable<R>>)
         ensures same { (self.new ≡ self.old) × (stopped.new ≡ stopped.old) }
         ensures shown { self.old ≡ Some stopped.old }
     {
-        stopped.confirm(&mut self.keeper);
+        stopped.confirm(&mut self.registry);
     }
 
     // Confirms that the first stop came because memory ran out, or by the log's end. Nothing
     // changes.
-    pub(crate) fn confirm_cause(&mut self, ends: &mut Keeper<Ends<R>>)
+    pub(crate) fn confirm_cause(&mut self, ends: &mut Registry<EndTable<R>>)
         ensures same { (self.new ≡ self.old) × (ends.new ≡ ends.old) }
         ensures cause { (end : Option Cause) → IsShown end ends.old → HasStopCause self.old end }
     {
@@ -185,9 +184,8 @@ impl<R: Run> FirstStop<R> {
     }
 }
 
-// Returns the number of a cause.
 fn number_of(cause: End) -> u64
-    ensures { result ≡ end_number cause }
+    ensures { result ≡ cause_number cause }
 {
     match cause {
         End::Full => 0,

@@ -3,7 +3,6 @@ use bio::Bytes;
 use std::alloc::Global;
 use std::process::Abort;
 
-/// Returns `length` bytes, each of which is `byte`.
 pub fn filled(rt: &impl Abort, alloc: Global, byte: u8, length: usize) -> Bytes {
     Bytes::from_vec(vec![in alloc; byte; length].expect(rt, "memory"))
 }

@@ -5,11 +5,11 @@ use Rattle.std.specs.Io.KnownBytes.{Appends, Consumes}
 use Rattle.std.specs.Prelude.{Bool, Err, IfErr, Ok, Result}
 use Rattle.bio.specs.declared.request.Bio.{Bio}
 use Rattle.blockdev.specs.declared.device.BlockDev.{Ghosts}
-use Rattle.nbd.specs.declared.fault.Fault.{Fault}
+use Rattle.nbd.specs.declared.fault.RequestFault.{RequestFault}
 use Rattle.nbd.specs.declared.range.Range.{Range}
 use Rattle.nbd.specs.declared.server.Server.{Server}
-use Rattle.nbd.specs.Requests.{BreaksIn, BreaksOff, GiveInTurn, OnlyReads, Plays, TrimsRange}
-use Rattle.nbd.specs.Serving.{Gives}
+use Rattle.nbd.specs.Requests.{BreaksIn, BreaksOff, GiveInTurn, OnlyReadsData, Plays, TrimsRange}
+use Rattle.nbd.specs.Serving.{GivesResult}
 use Rattle.nbd.proofs.Parts.{reads_none}
 use Rattle.nbd.proofs.Plays.{plays_both}
 
@@ -23,24 +23,24 @@ module _ {D L : Type 0} {d : Ghosts D} {l : Ghosts L} where
   unfolding BreaksIn
   breaks_none server = inl (reads_none server)
 
-  pub breaks_reads : (old new : Server D L d l) → OnlyReads old new → BreaksIn old new
+  pub breaks_reads : (old new : Server D L d l) → OnlyReadsData old new → BreaksIn old new
   unfolding BreaksIn
   breaks_reads old new only = inl only
 
-  pub breaks_turn : (now : ℕ) (parts : List Bio) (answer : Result Unit Fault)
+  pub breaks_turn : (now : ℕ) (parts : List Bio) (answer : Result Unit RequestFault)
       (old new : Server D L d l) → GiveInTurn now parts answer old new → BreaksIn old new
   unfolding BreaksIn
   breaks_turn now parts answer old new give = inr (now, parts, answer, give)
 
-  pub breaks_gives : (now : ℕ) (bio : Bio) (answer : Result Unit Fault) (old new : Server D L d l)
-      → Gives now bio answer old new → BreaksIn old new
+  pub breaks_gives : (now : ℕ) (bio : Bio) (answer : Result Unit RequestFault) (old new : Server D L d l)
+      → GivesResult now bio answer old new → BreaksIn old new
   breaks_gives now bio (Ok done) old new gives =
       breaks_turn now (bio ∷ []) (Ok tt) old new (new, gives, refl)
   breaks_gives now bio (Err fault) old new gives =
       breaks_turn now (bio ∷ []) (Err fault) old new (inl gives)
 
-  pub breaks_trims : (range : Result Range Fault) (now : ℕ) (fua : Bool)
-      (answer : Result Unit Fault) (old new : Server D L d l)
+  pub breaks_trims : (range : Result Range RequestFault) (now : ℕ) (fua : Bool)
+      (answer : Result Unit RequestFault) (old new : Server D L d l)
       → TrimsRange range now fua answer old new → BreaksIn old new
   breaks_trims (Err fault) now fua answer old new trims =
       subst (λ (s : Server D L d l). BreaksIn old s) (sym trims.1) (breaks_none old)

@@ -2,30 +2,30 @@
 use Rattle.std.proofs.Common.{◌≡◌, ◌++◌, ℕ, List, [], ◌∷◌, None, Some, Ok, Err, refl, replicate, true}
 use Rattle.std.proofs.Common.{false, arith}
 use Rattle.bio.specs.declared.request.Bio.TheVariants as bios
-use Rattle.nbd.specs.declared.fault.Fault.TheVariants as faults
+use Rattle.nbd.specs.declared.fault.RequestFault.TheVariants as faults
 use Rattle.nbd.specs.declared.negotiation.Negotiated.TheVariants.{Begun, Left}
-use Rattle.nbd.specs.declared.wire.Command.TheVariants as commands
-use Rattle.nbd.specs.declared.wire.Header.{Header}
+use Rattle.nbd.specs.declared.wire.RequestKind.TheVariants as commands
+use Rattle.nbd.specs.declared.wire.RequestHeader.{RequestHeader}
 use Rattle.nbd.specs.declared.negotiation.Export.{Export}
 use Rattle.nbd.specs.Negotiation.{IsOption, Sent, is_info, option_end, option_reply, padding}
 use Rattle.nbd.specs.Negotiation.{replies}
 use Rattle.std.specs.Prelude.{codes}
 use Rattle.nbd.specs.Requests.{AreDiscards, AreWrites}
-use Rattle.nbd.specs.Wire.{command_of, has_fua_flag, header_bytes, header_of, range_answer}
+use Rattle.nbd.specs.Wire.{command_of, has_fua_flag, header_bytes, request_header, request_range}
 use Rattle.nbd.specs.Wire.{reply_bytes}
 
 -- a write with FUA of sector 1
-write : Header
+write : RequestHeader
 write = record { flags = 1; kind = 1; cookie = 9; offset = 512; length = 512 }
 
 -- a header is read as it is spelled
-header-read : header_of (header_bytes write) ≡ Some write
-unfolding header_of write
+header-read : request_header (header_bytes write) ≡ Some write
+unfolding request_header write
 header-read = refl
 
 -- other bytes are no header
-header-none : header_of (replicate 28 0) ≡ None
-unfolding header_of
+header-none : request_header (replicate 28 0) ≡ None
+unfolding request_header
 header-none = refl
 
 command-write : command_of 1 ≡ commands.Write
@@ -48,15 +48,15 @@ unfolding reply_bytes
 reply-fine = refl
 
 -- the sector is within a device of two, past the end of a device of one, and no block of 4,096
-range-within : range_answer 512 2 write ≡ Ok (record { first = 1; count = 1 })
+range-within : request_range 512 2 write ≡ Ok (record { first = 1; count = 1 })
 unfolding write
 range-within = refl
 
-range-past : range_answer 512 1 write ≡ Err faults.NoSpace
+range-past : request_range 512 1 write ≡ Err faults.NoSpace
 unfolding write
 range-past = refl
 
-range-unaligned : range_answer 4096 16 write ≡ Err faults.Invalid
+range-unaligned : request_range 4096 16 write ≡ Err faults.Invalid
 unfolding write
 range-unaligned = refl
 

@@ -7,17 +7,17 @@ use Rattle.blockdev.specs.declared.device.BlockDev.{Ghosts}
 use Rattle.bio.specs.declared.request.Bio.{Bio}
 use Rattle.refusals.specs.declared.refusal.Refusal.TheVariants as refusals
 use Rattle.pending.specs.CoreState.{records}
-use Rattle.recorder.specs.Calls.{Submits, core_of, recorder_view}
+use Rattle.recorder.specs.Calls.{SubmitsRequest, core_of, recorder_view}
 use Rattle.recorder.specs.declared.reply.Reply.{Reply}
 use Rattle.recorder.specs.declared.reply.Reply.TheVariants as replies
 use Rattle.recorder.specs.Growth.{RecorderFrame}
 use Rattle.recorder.specs.declared.recorder.Recorder.{Recorder}
 use Rattle.std.specs.Prelude.{Bool, Err, IfErr, Ok, OnOk, Result, true}
 use Rattle.bio.specs.Requests.{has_fua}
-use Rattle.nbd.specs.declared.fault.Fault.{Fault}
-use Rattle.nbd.specs.declared.fault.Fault.TheVariants as faults
+use Rattle.nbd.specs.declared.fault.RequestFault.{RequestFault}
+use Rattle.nbd.specs.declared.fault.RequestFault.TheVariants as faults
 use Rattle.nbd.specs.declared.server.Server.{Server}
-use Rattle.nbd.specs.Serving.{Gives, IsSure, Records, ServerFrame}
+use Rattle.nbd.specs.Serving.{GivesResult, IsSure, RecordsRequest, ServerFrame}
 
 -- If two calls change a recorder only so, both together do.
 pub frames_join : {D L : Type 0} {d : Ghosts D} {l : Ghosts L}
@@ -48,9 +48,9 @@ consumed_none (Some rest) = refl
 
 -- A submission whose reply is neither an id nor Passed was refused for memory.
 pub refused-only : {L : Type 0} {g : Ghosts L} (bio : Bio) (reply : Reply) (old new : Recorder L g)
-    → Submits bio reply old new
+    → SubmitsRequest bio reply old new
     → ((id : ℕ) → reply ≡ replies.Tracked id → ⊥) → (reply ≡ replies.Passed → ⊥)
-    → Submits bio (replies.Refused refusals.Memory) old new
+    → SubmitsRequest bio (replies.Refused refusals.Memory) old new
 refused-only bio reply old new submits tracked passed =
     elim (bool_cases (records (core_of old) bio)) [
       | inl recorded ↦ elim (submits.recorded recorded) [
@@ -62,10 +62,10 @@ refused-only bio reply old new submits tracked passed =
 
 -- A request was recorded and ended well, and the recorder was asked for it if it has FUA.
 pub gives_confirmed : {D L : Type 0} {d : Ghosts D} {l : Ghosts L} (now : ℕ) (bio : Bio)
-    (id : Option ℕ) (fua : Bool) (answer : Result Unit Fault) (old new : Server D L d l)
-    → Records now bio id (Ok tt) old new → fua ≡ has_fua bio
+    (id : Option ℕ) (fua : Bool) (answer : Result Unit RequestFault) (old new : Server D L d l)
+    → RecordsRequest now bio id (Ok tt) old new → fua ≡ has_fua bio
     → OnOk answer (fua ≡ true → IsSure id new.recorder)
-    → IfErr answer (λ fault. (fault ≡ faults.Io) × (fua ≡ true)) → Gives now bio answer old new
+    → IfErr answer (λ fault. (fault ≡ faults.Io) × (fua ≡ true)) → GivesResult now bio answer old new
 gives_confirmed now bio id fua (Ok done) old new records is sure unsure =
     (id, records, λ has. sure (is ∙ has))
 gives_confirmed now bio id fua (Err fault) old new records is sure unsure =

@@ -8,7 +8,7 @@ use Rattle.std.specs.Io.KnownBytes.{Appends, Consumes}
 use Rattle.nbd.specs.declared.negotiation.Export.{Export}
 use Rattle.nbd.specs.declared.negotiation.Negotiated.{Negotiated}
 use Rattle.nbd.specs.declared.negotiation.Negotiated.TheVariants.{Begun, Left}
-use Rattle.nbd.specs.Negotiation.{Agrees, GoesOn, IsOption, Sent, option_end, option_number}
+use Rattle.nbd.specs.Negotiation.{AgreesOnOptions, OptionGoesOn, IsOption, Sent, option_end, option_number}
 use Rattle.nbd.specs.Negotiation.{replies_to, sent_bytes}
 
 -- An option that is no Some is None.
@@ -20,7 +20,7 @@ none_left (Some x) not = absurd (not x refl)
 pub record HasAsked (e : Export) (flags : ℕ) (in_old in_new out_old out_new : Option (List ℕ))
     : Type 0 where
   pub asked : List Sent
-  pub each : AllByRecursion GoesOn asked
+  pub each : AllByRecursion OptionGoesOn asked
   pub heard : Consumes in_old in_new (flat_map sent_bytes asked)
   pub said : Appends out_old out_new (flat_map (replies_to e flags) asked)
 
@@ -44,13 +44,13 @@ asked_none e flags input output =
 
 -- One more option was read and answered.
 pub asked_more : (e : Export) (flags : ℕ) (in_old in_mid in_new out_old out_mid out_new
-    : Option (List ℕ)) (sent : Sent) → HasAsked e flags in_old in_mid out_old out_mid → GoesOn sent
+    : Option (List ℕ)) (sent : Sent) → HasAsked e flags in_old in_mid out_old out_mid → OptionGoesOn sent
     → Consumes in_mid in_new (sent_bytes sent) → Appends out_mid out_new (replies_to e flags sent)
     → HasAsked e flags in_old in_new out_old out_new
 asked_more e flags in_old in_mid in_new out_old out_mid out_new sent before goes heard said =
     record {
       asked = before.asked ++ sent ∷ [];
-      each = all_more GoesOn before.asked sent before.each goes;
+      each = all_more OptionGoesOn before.asked sent before.each goes;
       heard = subst (Consumes in_old in_new) (given_more sent_bytes before.asked sent)
           (Consumes-trans in_old in_mid in_new _ _ before.heard heard);
       said = subst (Appends out_old out_new) (given_more (replies_to e flags) before.asked sent)
@@ -63,7 +63,7 @@ pub asked_last : (e : Export) (flags : ℕ) (in_old in_mid in_new out_old out_mi
     → IsOption sent → option_end (option_number sent) sent.body ≡ Some Begun
     → Consumes in_mid in_new (sent_bytes sent) → Appends out_mid out_new (replies_to e flags sent)
     → (taken out : List ℕ) × Consumes in_old in_new taken × Appends out_old out_new out
-    × Agrees e flags taken out
+    × AgreesOnOptions e flags taken out
 asked_last e flags in_old in_mid in_new out_old out_mid out_new sent before option begins heard
     said = (
       flat_map sent_bytes before.asked ++ sent_bytes sent,
@@ -99,7 +99,7 @@ module _ (e : Export) (flags : ℕ) (in_old in_mid in_new out_old out_mid out_ne
 
   -- It begins the requests.
   pub asked_begun : end ≡ Some Begun → (taken out : List ℕ) × Consumes in_old in_new taken
-      × Appends out_old out_new out × Agrees e flags taken out
+      × Appends out_old out_new out × AgreesOnOptions e flags taken out
   asked_begun begun =
       elim said [
         | inl left ↦ absurd (cc (left, begun))

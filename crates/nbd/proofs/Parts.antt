@@ -15,12 +15,12 @@ use Rattle.bio.specs.declared.request.SectorSize.{SectorSize}
 use Rattle.bio.specs.declared.request.SectorSize.TheVariants.{B512, B4096}
 use Rattle.blockdev.specs.JoinLaws.{goes_both, goes_none}
 use Rattle.blockdev.specs.declared.device.BlockDev.{Ghosts}
-use Rattle.nbd.specs.declared.fault.Fault.{Fault}
+use Rattle.nbd.specs.declared.fault.RequestFault.{RequestFault}
 use Rattle.nbd.specs.declared.range.Range.{Range}
 use Rattle.nbd.specs.declared.server.Server.{Server}
-use Rattle.nbd.specs.Requests.{AreDiscards, AreWrites, GiveInTurn, IsInDevice, OnlyReads}
+use Rattle.nbd.specs.Requests.{AreDiscards, AreWrites, GiveInTurn, IsInDevice, OnlyReadsData}
 use Rattle.nbd.specs.Requests.{SendsRange, TrimsParts, WritesParts}
-use Rattle.nbd.specs.Serving.{Gives, ServerFrame}
+use Rattle.nbd.specs.Serving.{GivesResult, ServerFrame}
 use Rattle.nbd.specs.Wire.{reply_bytes}
 use Rattle.nbd.proofs.Frames.{consumed_more, consumed_none}
 
@@ -28,13 +28,13 @@ use Rattle.nbd.proofs.Frames.{consumed_more, consumed_none}
 
 -- Some requests ended well, and then one more ended.
 pub give_more : {D L : Type 0} {d : Ghosts D} {l : Ghosts L} (now : ℕ) (parts : List Bio) (bio : Bio)
-    (answer : Result Unit Fault) (old mid new : Server D L d l)
-    → GiveInTurn now parts (Ok tt) old mid → Gives now bio answer mid new
+    (answer : Result Unit RequestFault) (old mid new : Server D L d l)
+    → GiveInTurn now parts (Ok tt) old mid → GivesResult now bio answer mid new
     → GiveInTurn now (parts ++ bio ∷ []) answer old new
 give_more {D} {L} {d} {l} now [] bio (Ok done) old mid new before gives =
-    (new, subst (λ (s : Server D L d l). Gives now bio (Ok tt) s new) before gives, refl)
+    (new, subst (λ (s : Server D L d l). GivesResult now bio (Ok tt) s new) before gives, refl)
 give_more {D} {L} {d} {l} now [] bio (Err fault) old mid new before gives =
-    inl (subst (λ (s : Server D L d l). Gives now bio (Err fault) s new) before gives)
+    inl (subst (λ (s : Server D L d l). GivesResult now bio (Err fault) s new) before gives)
 give_more now (part ∷ parts) bio (Ok done) old mid new before gives =
     (before.0, before.1, give_more now parts bio (Ok done) before.0 mid new before.2 gives)
 give_more now (part ∷ parts) bio (Err fault) old mid new before gives =
@@ -42,7 +42,7 @@ give_more now (part ∷ parts) bio (Err fault) old mid new before gives =
 
 -- One of some requests failed, so that none of the later ones was recorded.
 pub give_less : {D L : Type 0} {d : Ghosts D} {l : Ghosts L} (now : ℕ) (parts later : List Bio)
-    (fault : Fault) (old new : Server D L d l) → GiveInTurn now parts (Err fault) old new
+    (fault : RequestFault) (old new : Server D L d l) → GiveInTurn now parts (Err fault) old new
     → GiveInTurn now (parts ++ later) (Err fault) old new
 give_less now [] later fault old new before = absurd before
 give_less now (part ∷ parts) later fault old new before =
@@ -207,12 +207,12 @@ write_fits size first count sectors bytes fua some few within a b long =
 
 -- If the device is only read, its content and the recorder stay.
 pub reads_none : {D L : Type 0} {d : Ghosts D} {l : Ghosts L} (server : Server D L d l)
-    → OnlyReads server server
+    → OnlyReadsData server server
 reads_none {d = d} server =
     record { recorder = refl; device = goes_none nothing (d.shown server.disk) }
 
 pub reads_both : {D L : Type 0} {d : Ghosts D} {l : Ghosts L} (old mid new : Server D L d l)
-    → OnlyReads old mid → OnlyReads mid new → OnlyReads old new
+    → OnlyReadsData old mid → OnlyReadsData mid new → OnlyReadsData old new
 reads_both {d = d} old mid new before after =
     record {
       recorder = after.recorder ∙ before.recorder;
@@ -222,7 +222,7 @@ reads_both {d = d} old mid new before after =
 
 -- A range of the content stays.
 pub reads_content : {D L : Type 0} {d : Ghosts D} {l : Ghosts L} (old new : Server D L d l)
-    (first count : ℕ) → OnlyReads old new
+    (first count : ℕ) → OnlyReadsData old new
     → gather (d.shown new.disk).content first count ≡ gather (d.shown old.disk).content first count
 reads_content {d = d} old new first count only =
     gather-ext (d.shown new.disk).content (d.shown old.disk).content first first count
@@ -258,7 +258,7 @@ sent_more content first done count bytes old mid new before after is =
 pub sends_after : {D L E : Type 0} {d : Ghosts D} {l : Ghosts L} (result : Result Unit E)
     (range : Range) (cookie : ℕ) (head bytes : List ℕ) (before mid after : Option (List ℕ))
     (old new : Server D L d l) → Appends before mid head → OnOk result (Appends mid after bytes)
-    → head ≡ reply_bytes 0 cookie → OnlyReads old new
+    → head ≡ reply_bytes 0 cookie → OnlyReadsData old new
     → bytes ≡ gather (d.shown old.disk).content range.first range.count
     → OnOk result ((out : List ℕ) × Appends before after out × SendsRange range cookie out old new)
 sends_after (Err error) range cookie head bytes before mid after old new first next is only same =
@@ -315,7 +315,7 @@ module _ {D L : Type 0} {d : Ghosts D} {l : Ghosts L} (now : ℕ) (fua : Bool) (
     (heard : Consumes in_mid in_new part) where
   -- It ended well.
   pub written_more : ServerFrame old new
-      → Gives now (bios.Write (range.first + done) part false fua false) (Ok tt) mid new
+      → GivesResult now (bios.Write (range.first + done) part false fua false) (Ok tt) mid new
       → HasWritten now fua range (done + count) in_old in_new old new
   written_more frame gives =
       let few : done ≤ range.count = before.few in
@@ -335,8 +335,8 @@ module _ {D L : Type 0} {d : Ghosts D} {l : Ghosts L} (now : ℕ) (fua : Bool) (
       }
 
   -- It failed, and the data behind it was dropped.
-  pub written_failed : (fault : Fault) (in_last : Option (List ℕ)) (rest : List ℕ)
-      → Gives now (bios.Write (range.first + done) part false fua false) (Err fault) mid new
+  pub written_failed : (fault : RequestFault) (in_last : Option (List ℕ)) (rest : List ℕ)
+      → GivesResult now (bios.Write (range.first + done) part false fua false) (Err fault) mid new
       → length rest ≡ ((range.count - done) - count) * 512 → Consumes in_new in_last rest
       → (body : List ℕ) × (length body ≡ range.count * 512) × Consumes in_old in_last body
       × WritesParts now fua range.first body (Err fault) old new
@@ -412,7 +412,7 @@ module _ {D L : Type 0} {d : Ghosts D} {l : Ghosts L} (now : ℕ) (range : Range
     (is : count ≡ min (range.count - done) 2048) where
   -- It ended well.
   pub discarded_more : ServerFrame old new
-      → Gives now (bios.Discard (range.first + done) count) (Ok tt) mid new
+      → GivesResult now (bios.Discard (range.first + done) count) (Ok tt) mid new
       → HasDiscarded now range (done + count) old new
   discarded_more frame gives =
       let few : done ≤ range.count = before.few in
@@ -428,8 +428,8 @@ module _ {D L : Type 0} {d : Ghosts D} {l : Ghosts L} (now : ℕ) (range : Range
       }
 
   -- It failed, and the parts behind it aren't recorded.
-  pub discarded_failed : (fault : Fault)
-      → Gives now (bios.Discard (range.first + done) count) (Err fault) mid new
+  pub discarded_failed : (fault : RequestFault)
+      → GivesResult now (bios.Discard (range.first + done) count) (Err fault) mid new
       → (parts : List Bio) × AreDiscards range.first range.count parts
       × GiveInTurn now parts (Err fault) old new
   discarded_failed fault gives =
@@ -448,9 +448,9 @@ module _ {D L : Type 0} {d : Ghosts D} {l : Ghosts L} (now : ℕ) (range : Range
 
 -- A trim's parts ended well. Then the device was flushed if the trim has FUA.
 pub trims_all : {D L : Type 0} {d : Ghosts D} {l : Ghosts L} (now : ℕ) (fua : Bool) (range : Range)
-    (parts : List Bio) (answer : Result Unit Fault) (old mid new : Server D L d l)
+    (parts : List Bio) (answer : Result Unit RequestFault) (old mid new : Server D L d l)
     → AreDiscards range.first range.count parts → GiveInTurn now parts (Ok tt) old mid
-    → (fua ≡ true → Gives now bios.Flush answer mid new)
+    → (fua ≡ true → GivesResult now bios.Flush answer mid new)
     → (fua ≡ false → (answer ≡ Ok tt) × (new ≡ mid)) → TrimsParts now fua range answer old new
 trims_all now true range parts answer old mid new are give flushed plain =
     record {
@@ -463,21 +463,21 @@ trims_all {D} {L} {d} {l} now false range parts answer old mid new are give flus
       parts = parts;
       are = are;
       give = subst (λ (xs : List Bio). GiveInTurn now xs answer old new) (sym (append-nil parts))
-          (subst (λ (a : Result Unit Fault). GiveInTurn now parts a old new) (sym (plain refl).0)
+          (subst (λ (a : Result Unit RequestFault). GiveInTurn now parts a old new) (sym (plain refl).0)
           (subst (λ (s : Server D L d l). GiveInTurn now parts (Ok tt) old s) (sym (plain refl).1)
           give));
     }
 
 -- One of a trim's parts failed.
 pub trims_failed : {D L : Type 0} {d : Ghosts D} {l : Ghosts L} (now : ℕ) (fua : Bool)
-    (range : Range) (parts : List Bio) (fault : Fault) (old new : Server D L d l)
+    (range : Range) (parts : List Bio) (fault : RequestFault) (old new : Server D L d l)
     → AreDiscards range.first range.count parts → GiveInTurn now parts (Err fault) old new
     → TrimsParts now fua range (Err fault) old new
 trims_failed now fua range parts fault old new are give =
     record { parts = parts; are = are; give = give_less now parts _ fault old new give }
 
 -- An answer that is no error is Ok.
-pub ok_left : (answer : Result Unit Fault) → ((fault : Fault) → answer ≡ Err fault → ⊥)
+pub ok_left : (answer : Result Unit RequestFault) → ((fault : RequestFault) → answer ≡ Err fault → ⊥)
     → answer ≡ Ok tt
 ok_left (Ok done) not = refl
 ok_left (Err fault) not = absurd (not fault refl)

@@ -7,19 +7,19 @@ use Rattle.std.proofs.KnownBytes.{Consumes-nil, Consumes-trans}
 use Rattle.std.specs.Io.KnownBytes.{Appends, Consumes}
 use Rattle.std.specs.Prelude.{Bool, Err, IfOk, Ok, OnOk, Result, false, true}
 use Rattle.blockdev.specs.declared.device.BlockDev.{Ghosts}
-use Rattle.nbd.specs.declared.fault.Fault.{Fault}
+use Rattle.nbd.specs.declared.fault.RequestFault.{RequestFault}
 use Rattle.nbd.specs.declared.server.Server.{Server}
-use Rattle.nbd.specs.declared.wire.Command.{Command}
-use Rattle.nbd.specs.declared.wire.Command.TheVariants as commands
-use Rattle.nbd.specs.declared.wire.Header.{Header}
-use Rattle.nbd.specs.Requests.{Answers, AnswersRead, Asks, Disconnects, Marks, Plays, Step, Takes}
+use Rattle.nbd.specs.declared.wire.RequestKind.{RequestKind}
+use Rattle.nbd.specs.declared.wire.RequestKind.TheVariants as commands
+use Rattle.nbd.specs.declared.wire.RequestHeader.{RequestHeader}
+use Rattle.nbd.specs.Requests.{RepliesTo, AnswersRead, Asks, Disconnects, Marks, Plays, SessionStep, DoesStep}
 use Rattle.nbd.specs.Requests.{TakesAll, heard}
 use Rattle.nbd.specs.Serving.{NotesMark}
-use Rattle.nbd.specs.Wire.{command_of, error_of, header_of, reply_bytes}
+use Rattle.nbd.specs.Wire.{command_of, error_of, request_header, reply_bytes}
 
 module _ {D L : Type 0} {d : Ghosts D} {l : Ghosts L} where
   -- Some steps were taken, and then others.
-  takes_both : (first next : List Step) (sent more : List ℕ) (old mid new : Server D L d l)
+  takes_both : (first next : List SessionStep) (sent more : List ℕ) (old mid new : Server D L d l)
       → TakesAll first sent old mid → TakesAll next more mid new
       → TakesAll (first ++ next) (sent ++ more) old new
   takes_both [] next sent more old mid new before after =
@@ -51,7 +51,7 @@ module _ {D L : Type 0} {d : Ghosts D} {l : Ghosts L} where
   plays_none server = record { steps = []; takes = (refl, refl); hears = refl }
 
   -- One step was taken.
-  pub plays_step : (step : Step) (out : List ℕ) (old new : Server D L d l) → Takes step out old new
+  pub plays_step : (step : SessionStep) (out : List ℕ) (old new : Server D L d l) → DoesStep step out old new
       → Plays (heard step) out old new
   plays_step step out old new takes =
       record {
@@ -66,15 +66,15 @@ module _ {D L : Type 0} {d : Ghosts D} {l : Ghosts L} where
       plays_both [] [] [] [] old mid new before
       (plays_step (Marks text) [] mid new (refl, (now, notes)))
 
-  pub plays_request : (head body out : List ℕ) (now : ℕ) (h : Header) (old new : Server D L d l)
-      → length head ≡ 28 → header_of head ≡ Some h
-      → Answers (command_of h.kind) now h body out old new → Plays (head ++ body) out old new
+  pub plays_request : (head body out : List ℕ) (now : ℕ) (h : RequestHeader) (old new : Server D L d l)
+      → length head ≡ 28 → request_header head ≡ Some h
+      → RepliesTo (command_of h.kind) now h body out old new → Plays (head ++ body) out old new
   plays_request head body out now h old new whole is answers =
       plays_step (Asks head body now) out old new (h, whole, is, answers)
 
   -- The client disconnects by a request.
-  pub disconnects_now : (head : List ℕ) (h : Header) (server : Server D L d l) → length head ≡ 28
-      → header_of head ≡ Some h → command_of h.kind ≡ commands.Disconnect
+  pub disconnects_now : (head : List ℕ) (h : RequestHeader) (server : Server D L d l) → length head ≡ 28
+      → request_header head ≡ Some h → command_of h.kind ≡ commands.Disconnect
       → Disconnects (head ++ []) [] server server
   disconnects_now head h server whole is asks =
       record {
@@ -106,36 +106,36 @@ module _ {D L : Type 0} {d : Ghosts D} {l : Ghosts L} where
       }
 
   -- A read was answered.
-  pub read_answered : {E : Type 0} (result : Result Unit E) (command : Command) (now : ℕ)
-      (h : Header) (input before after : Option (List ℕ)) (old new : Server D L d l)
+  pub read_answered : {E : Type 0} (result : Result Unit E) (command : RequestKind) (now : ℕ)
+      (h : RequestHeader) (input before after : Option (List ℕ)) (old new : Server D L d l)
       → command ≡ commands.Read
       → OnOk result ((out : List ℕ) × Appends before after out × AnswersRead h out old new)
       → OnOk result ((body out : List ℕ) × Consumes input input body × Appends before after out
-      × Answers command now h body out old new)
+      × RepliesTo command now h body out old new)
   read_answered (Err error) command now h input before after old new is answers = answers
   read_answered (Ok done) command now h input before after old new is answers = (
     [],
     answers.0,
     Consumes-nil input,
     answers.1,
-    subst (λ (k : Command). Answers k now h [] answers.0 old new) (sym is) (refl, answers.2),
+    subst (λ (k : RequestKind). RepliesTo k now h [] answers.0 old new) (sym is) (refl, answers.2),
   )
 
   -- A request was answered by a reply without data.
-  pub replied : {E : Type 0} (result : Result Unit E) (command kind : Command) (now : ℕ)
-      (h : Header) (input before after : Option (List ℕ)) (old new : Server D L d l)
-      (answer : Result Unit Fault) → command ≡ kind
-      → Answers kind now h [] (reply_bytes (error_of answer) h.cookie) old new
+  pub replied : {E : Type 0} (result : Result Unit E) (command kind : RequestKind) (now : ℕ)
+      (h : RequestHeader) (input before after : Option (List ℕ)) (old new : Server D L d l)
+      (answer : Result Unit RequestFault) → command ≡ kind
+      → RepliesTo kind now h [] (reply_bytes (error_of answer) h.cookie) old new
       → OnOk result (Appends before after (reply_bytes (error_of answer) h.cookie))
       → OnOk result ((body out : List ℕ) × Consumes input input body × Appends before after out
-      × Answers command now h body out old new)
+      × RepliesTo command now h body out old new)
   replied (Err error) command kind now h input before after old new answer is answers sent = sent
   replied (Ok done) command kind now h input before after old new answer is answers sent = (
     [],
     reply_bytes (error_of answer) h.cookie,
     Consumes-nil input,
     sent,
-    subst (λ (k : Command). Answers k now h [] (reply_bytes (error_of answer) h.cookie) old new)
+    subst (λ (k : RequestKind). RepliesTo k now h [] (reply_bytes (error_of answer) h.cookie) old new)
         (sym is) answers,
   )
 

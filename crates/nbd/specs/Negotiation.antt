@@ -93,7 +93,7 @@ replies e flags option bytes =
     else option_reply option 0x80000001 []
 
 -- An option that doesn't end the handshake.
-pub record GoesOn (sent : Sent) : Type 0 where
+pub record OptionGoesOn (sent : Sent) : Type 0 where
   pub option : IsOption sent
   pub goes_on : option_end (option_number sent) sent.body ≡ None
 
@@ -103,10 +103,10 @@ replies_to e flags sent = replies e flags (option_number sent) sent.body
 
 -- A client with these flags sent some options, and the last of them began the requests. `taken` are
 -- the bytes of the options, and `out` the replies.
-pub record Agrees (e : Export) (flags : ℕ) (taken out : List ℕ) : Type 0 where
+pub record AgreesOnOptions (e : Export) (flags : ℕ) (taken out : List ℕ) : Type 0 where
   pub asked : List Sent
   pub last : Sent
-  pub each : AllByRecursion GoesOn asked
+  pub each : AllByRecursion OptionGoesOn asked
   pub option : IsOption last
   pub begins : option_end (option_number last) last.body ≡ Some Begun
   pub heard : taken ≡ flat_map sent_bytes asked ++ sent_bytes last
@@ -114,12 +114,12 @@ pub record Agrees (e : Export) (flags : ℕ) (taken out : List ℕ) : Type 0 whe
 
 -- A handshake that leads to requests: the client sent `taken`, and the server sent `out`. The server
 -- greets, the client sends its flags and then options, and the server answers each of them.
-pub record Begins (e : Export) (taken out : List ℕ) : Type 0 where
+pub record HandshakeBegins (e : Export) (taken out : List ℕ) : Type 0 where
   pub flags : List ℕ
   pub four : length flags ≡ 4
   pub known : big_number 4 flags < 4
   pub options : List ℕ
   pub replied : List ℕ
-  pub agrees : Agrees e (big_number 4 flags) options replied
+  pub agrees : AgreesOnOptions e (big_number 4 flags) options replied
   pub heard : taken ≡ flags ++ options
   pub said : out ≡ greeting ++ replied

@@ -9,15 +9,15 @@ use Rattle.bio.specs.declared.request.Bio.TheVariants as bios
 use Rattle.bio.specs.Requests.{bytes_of}
 use Rattle.blockdev.specs.Law.{DeviceFrame}
 use Rattle.blockdev.specs.declared.device.BlockDev.{Ghosts}
-use Rattle.nbd.specs.declared.fault.Fault.{Fault}
-use Rattle.nbd.specs.declared.fault.Fault.TheVariants as faults
+use Rattle.nbd.specs.declared.fault.RequestFault.{RequestFault}
+use Rattle.nbd.specs.declared.fault.RequestFault.TheVariants as faults
 use Rattle.nbd.specs.declared.range.Range.{Range}
 use Rattle.nbd.specs.declared.server.Server.{Server}
-use Rattle.nbd.specs.declared.wire.Command.{Command}
-use Rattle.nbd.specs.declared.wire.Command.TheVariants as commands
-use Rattle.nbd.specs.declared.wire.Header.{Header}
-use Rattle.nbd.specs.Serving.{Gives, NotesMark}
-use Rattle.nbd.specs.Wire.{command_of, error_of, has_fua_flag, header_of, range_answer}
+use Rattle.nbd.specs.declared.wire.RequestKind.{RequestKind}
+use Rattle.nbd.specs.declared.wire.RequestKind.TheVariants as commands
+use Rattle.nbd.specs.declared.wire.RequestHeader.{RequestHeader}
+use Rattle.nbd.specs.Serving.{GivesResult, NotesMark}
+use Rattle.nbd.specs.Wire.{command_of, error_of, has_fua_flag, request_header, request_range}
 use Rattle.nbd.specs.Wire.{reply_bytes}
 
 -- The range is within the server's data device, and whole blocks.
@@ -30,14 +30,14 @@ pub record IsInDevice {D L : Type 0} {d : Ghosts D} {l : Ghosts L} (server : Ser
 -- The requests `parts` are recorded one after another, each at the time `now`. Either each ends well.
 -- Or one fails: it is the last that is recorded, and its error is the result.
 abbrev pub GiveInTurn : {D L : Type 0} {d : Ghosts D} {l : Ghosts L} → ℕ → List Bio
-    → Result Unit Fault → Server D L d l → Server D L d l → Type 0
+    → Result Unit RequestFault → Server D L d l → Server D L d l → Type 0
 GiveInTurn now [] (Ok done) old new = new ≡ old
 GiveInTurn now [] (Err fault) old new = ⊥
 GiveInTurn {D} {L} {d} {l} now (bio ∷ parts) (Ok done) old new =
-    (mid : Server D L d l) × Gives now bio (Ok tt) old mid × GiveInTurn now parts (Ok done) mid new
+    (mid : Server D L d l) × GivesResult now bio (Ok tt) old mid × GiveInTurn now parts (Ok done) mid new
 GiveInTurn {D} {L} {d} {l} now (bio ∷ parts) (Err fault) old new =
-    Gives now bio (Err fault) old new
-    ⊎ ((mid : Server D L d l) × Gives now bio (Ok tt) old mid
+    GivesResult now bio (Err fault) old new
+    ⊎ ((mid : Server D L d l) × GivesResult now bio (Ok tt) old mid
     × GiveInTurn now parts (Err fault) mid new)
 
 -- `parts` are the parts of a write of `bytes` from sector `first` on: writes of at most 2,048 whole
@@ -60,7 +60,7 @@ AreDiscards first count (bio ∷ parts) =
 -- A write of `body` from sector `first` on is recorded in parts, up to the first part that fails.
 -- The data behind that part is dropped.
 pub record WritesParts {D L : Type 0} {d : Ghosts D} {l : Ghosts L} (now : ℕ) (fua : Bool)
-    (first : ℕ) (body : List ℕ) (answer : Result Unit Fault)
+    (first : ℕ) (body : List ℕ) (answer : Result Unit RequestFault)
     (old new : Server D L d l) : Type 0 where
   pub tried : List ℕ
   pub dropped : List ℕ
@@ -72,39 +72,39 @@ pub record WritesParts {D L : Type 0} {d : Ghosts D} {l : Ghosts L} (now : ℕ) 
 
 -- A write with the data `body`: its sectors are judged first, and a write that is refused changes
 -- nothing.
-abbrev pub WritesRange : {D L : Type 0} {d : Ghosts D} {l : Ghosts L} → Result Range Fault → ℕ → Bool
-    → List ℕ → Result Unit Fault → Server D L d l → Server D L d l → Type 0
+abbrev pub WritesRange : {D L : Type 0} {d : Ghosts D} {l : Ghosts L} → Result Range RequestFault → ℕ → Bool
+    → List ℕ → Result Unit RequestFault → Server D L d l → Server D L d l → Type 0
 WritesRange (Err fault) now fua body answer old new = (answer ≡ Err fault) × (new ≡ old)
 WritesRange (Ok range) now fua body answer old new = WritesParts now fua range.first body answer old new
 
 -- the sectors that a request names on the server's data device
-abbrev pub range_on : {D L : Type 0} {d : Ghosts D} {l : Ghosts L} → Server D L d l → Header
-    → Result Range Fault
-range_on {d = d} server h = range_answer (bytes_of server.size) (d.shown server.disk).size h
+abbrev pub range_on : {D L : Type 0} {d : Ghosts D} {l : Ghosts L} → Server D L d l → RequestHeader
+    → Result Range RequestFault
+range_on {d = d} server h = request_range (bytes_of server.size) (d.shown server.disk).size h
 
-abbrev pub WritesBody : {D L : Type 0} {d : Ghosts D} {l : Ghosts L} → ℕ → Header
-    → List ℕ → Result Unit Fault → Server D L d l → Server D L d l → Type 0
+abbrev pub WritesBody : {D L : Type 0} {d : Ghosts D} {l : Ghosts L} → ℕ → RequestHeader
+    → List ℕ → Result Unit RequestFault → Server D L d l → Server D L d l → Type 0
 WritesBody now h body answer old new = WritesRange (range_on old h) now (has_fua_flag h) body answer old new
 
 -- A trim over these sectors is recorded in parts, up to the first that fails. If it has FUA, a flush
 -- follows, since a discard has no FUA of its own.
 pub record TrimsParts {D L : Type 0} {d : Ghosts D} {l : Ghosts L} (now : ℕ) (fua : Bool)
-    (range : Range) (answer : Result Unit Fault) (old new : Server D L d l) : Type 0 where
+    (range : Range) (answer : Result Unit RequestFault) (old new : Server D L d l) : Type 0 where
   pub parts : List Bio
   pub are : AreDiscards range.first range.count parts
   pub give : GiveInTurn now (parts ++ (if fua then bios.Flush ∷ [] else [])) answer old new
 
-abbrev pub TrimsRange : {D L : Type 0} {d : Ghosts D} {l : Ghosts L} → Result Range Fault → ℕ → Bool
-    → Result Unit Fault → Server D L d l → Server D L d l → Type 0
+abbrev pub TrimsRange : {D L : Type 0} {d : Ghosts D} {l : Ghosts L} → Result Range RequestFault → ℕ → Bool
+    → Result Unit RequestFault → Server D L d l → Server D L d l → Type 0
 TrimsRange (Err fault) now fua answer old new = (answer ≡ Err fault) × (new ≡ old)
 TrimsRange (Ok range) now fua answer old new = TrimsParts now fua range answer old new
 
-abbrev pub Trims : {D L : Type 0} {d : Ghosts D} {l : Ghosts L} → ℕ → Header
-    → Result Unit Fault → Server D L d l → Server D L d l → Type 0
+abbrev pub Trims : {D L : Type 0} {d : Ghosts D} {l : Ghosts L} → ℕ → RequestHeader
+    → Result Unit RequestFault → Server D L d l → Server D L d l → Type 0
 Trims now h answer old new = TrimsRange (range_on old h) now (has_fua_flag h) answer old new
 
 -- Only the data device is read: its content and the recorder stay.
-pub record OnlyReads {D L : Type 0} {d : Ghosts D} {l : Ghosts L}
+pub record OnlyReadsData {D L : Type 0} {d : Ghosts D} {l : Ghosts L}
     (old new : Server D L d l) : Type 0 where
   pub recorder : new.recorder ≡ old.recorder
   pub device : DeviceFrame nothing (d.shown old.disk) (d.shown new.disk)
@@ -114,75 +114,75 @@ pub record OnlyReads {D L : Type 0} {d : Ghosts D} {l : Ghosts L}
 abbrev pub SendsRange : {D L : Type 0} {d : Ghosts D} {l : Ghosts L} → Range → ℕ → List ℕ
     → Server D L d l → Server D L d l → Type 0
 SendsRange {d = d} range cookie out old new =
-    OnlyReads old new
+    OnlyReadsData old new
     × ((out ≡ reply_bytes 0 cookie ++ gather (d.shown old.disk).content range.first range.count)
-    ⊎ ((fault : Fault) × (out ≡ reply_bytes (error_of (Err fault)) cookie)))
+    ⊎ ((fault : RequestFault) × (out ≡ reply_bytes (error_of (Err fault)) cookie)))
 
 -- What a read sends: its sectors are judged first, and a read that is refused is answered with the
 -- error.
-abbrev pub AnswersRange : {D L : Type 0} {d : Ghosts D} {l : Ghosts L} → Result Range Fault → ℕ
+abbrev pub AnswersRange : {D L : Type 0} {d : Ghosts D} {l : Ghosts L} → Result Range RequestFault → ℕ
     → List ℕ → Server D L d l → Server D L d l → Type 0
 AnswersRange (Err fault) cookie out old new =
     (out ≡ reply_bytes (error_of (Err fault)) cookie) × (new ≡ old)
 AnswersRange (Ok range) cookie out old new = SendsRange range cookie out old new
 
-abbrev pub AnswersRead : {D L : Type 0} {d : Ghosts D} {l : Ghosts L} → Header
+abbrev pub AnswersRead : {D L : Type 0} {d : Ghosts D} {l : Ghosts L} → RequestHeader
     → List ℕ → Server D L d l → Server D L d l → Type 0
 AnswersRead h out old new = AnswersRange (range_on old h) h.cookie out old new
 
 -- ---- the whole session
 
 -- What a session does next.
-pub data Step : Type 0 where
+pub data SessionStep : Type 0 where
   -- a mark is recorded
-  Marks : (text : List ℕ) → Step
+  Marks : (text : List ℕ) → SessionStep
   -- the request of this header and data, as they are on the wire, is done and answered at this time
-  Asks : (head body : List ℕ) (now : ℕ) → Step
+  Asks : (head body : List ℕ) (now : ℕ) → SessionStep
 
 -- a request without data is answered by a reply without data
-abbrev pub Replies : Result Unit Fault → Header → List ℕ → Type 0
+abbrev pub Replies : Result Unit RequestFault → RequestHeader → List ℕ → Type 0
 Replies answer h out = out ≡ reply_bytes (error_of answer) h.cookie
 
 -- What a request does that has this header and, if it is a write, this data, and what is sent back.
 -- A request to disconnect has no reply.
-abbrev pub Answers : {D L : Type 0} {d : Ghosts D} {l : Ghosts L} → Command → ℕ → Header
+abbrev pub RepliesTo : {D L : Type 0} {d : Ghosts D} {l : Ghosts L} → RequestKind → ℕ → RequestHeader
     → List ℕ → List ℕ → Server D L d l → Server D L d l → Type 0
-Answers commands.Read now h body out old new = (body ≡ []) × AnswersRead h out old new
-Answers commands.Write now h body out old new = (length body ≡ h.length)
-    × ((answer : Result Unit Fault) × WritesBody now h body answer old new × Replies answer h out)
-Answers commands.Disconnect now h body out old new = ⊥
-Answers commands.Flush now h body out old new = (body ≡ [])
-    × ((answer : Result Unit Fault) × Gives now bios.Flush answer old new × Replies answer h out)
-Answers commands.Trim now h body out old new = (body ≡ [])
-    × ((answer : Result Unit Fault) × Trims now h answer old new × Replies answer h out)
-Answers commands.Other now h body out old new =
+RepliesTo commands.Read now h body out old new = (body ≡ []) × AnswersRead h out old new
+RepliesTo commands.Write now h body out old new = (length body ≡ h.length)
+    × ((answer : Result Unit RequestFault) × WritesBody now h body answer old new × Replies answer h out)
+RepliesTo commands.Disconnect now h body out old new = ⊥
+RepliesTo commands.Flush now h body out old new = (body ≡ [])
+    × ((answer : Result Unit RequestFault) × GivesResult now bios.Flush answer old new × Replies answer h out)
+RepliesTo commands.Trim now h body out old new = (body ≡ [])
+    × ((answer : Result Unit RequestFault) × Trims now h answer old new × Replies answer h out)
+RepliesTo commands.Other now h body out old new =
     (body ≡ []) × (new ≡ old) × Replies (Err faults.Invalid) h out
 
 -- What a step does, and what is sent back.
-abbrev pub Takes : {D L : Type 0} {d : Ghosts D} {l : Ghosts L} → Step → List ℕ → Server D L d l
+abbrev pub DoesStep : {D L : Type 0} {d : Ghosts D} {l : Ghosts L} → SessionStep → List ℕ → Server D L d l
     → Server D L d l → Type 0
-Takes (Marks text) out old new = (out ≡ []) × ((now : ℕ) × NotesMark now text old new)
-Takes (Asks head body now) out old new =
-    (h : Header) × (length head ≡ 28) × (header_of head ≡ Some h)
-    × Answers (command_of h.kind) now h body out old new
+DoesStep (Marks text) out old new = (out ≡ []) × ((now : ℕ) × NotesMark now text old new)
+DoesStep (Asks head body now) out old new =
+    (h : RequestHeader) × (length head ≡ 28) × (request_header head ≡ Some h)
+    × RepliesTo (command_of h.kind) now h body out old new
 
 -- the bytes that a step takes from the input
-abbrev pub heard : Step → List ℕ
+abbrev pub heard : SessionStep → List ℕ
 heard (Marks text) = []
 heard (Asks head body now) = head ++ body
 
 -- The steps are taken one after another. `out` is all that is sent back.
-abbrev pub TakesAll : {D L : Type 0} {d : Ghosts D} {l : Ghosts L} → List Step → List ℕ
+abbrev pub TakesAll : {D L : Type 0} {d : Ghosts D} {l : Ghosts L} → List SessionStep → List ℕ
     → Server D L d l → Server D L d l → Type 0
 TakesAll [] out old new = (out ≡ []) × (new ≡ old)
 TakesAll {D} {L} {d} {l} (step ∷ steps) out old new =
     (mid : Server D L d l) × (first rest : List ℕ) × (out ≡ first ++ rest)
-    × Takes step first old mid × TakesAll steps rest mid new
+    × DoesStep step first old mid × TakesAll steps rest mid new
 
 -- Some steps are taken, which take the bytes `taken` from the input, and send `out` back.
 pub record Plays {D L : Type 0} {d : Ghosts D} {l : Ghosts L} (taken out : List ℕ)
     (old new : Server D L d l) : Type 0 where
-  pub steps : List Step
+  pub steps : List SessionStep
   pub takes : TakesAll steps out old new
   pub hears : taken ≡ flat_map heard steps
 
@@ -191,10 +191,10 @@ pub record Disconnects {D L : Type 0} {d : Ghosts D} {l : Ghosts L} (taken out :
     (old new : Server D L d l) : Type 0 where
   pub before : List ℕ
   pub last : List ℕ
-  pub header : Header
+  pub header : RequestHeader
   pub split : taken ≡ before ++ last
   pub whole : length last ≡ 28
-  pub is : header_of last ≡ Some header
+  pub is : request_header last ≡ Some header
   pub asks : command_of header.kind ≡ commands.Disconnect
   pub plays : Plays before out old new
 
@@ -202,8 +202,8 @@ pub record Disconnects {D L : Type 0} {d : Ghosts D} {l : Ghosts L} (taken out :
 -- requests were recorded one after another, up to one that failed.
 unfoldable pub BreaksIn : {D L : Type 0} {d : Ghosts D} {l : Ghosts L} → Server D L d l
     → Server D L d l → Type 0
-BreaksIn old new = OnlyReads old new
-    ⊎ ((now : ℕ) × (parts : List Bio) × (answer : Result Unit Fault)
+BreaksIn old new = OnlyReadsData old new
+    ⊎ ((now : ℕ) × (parts : List Bio) × (answer : Result Unit RequestFault)
     × GiveInTurn now parts answer old new)
 
 -- A session broke off, whose input began as `heard_from` and whose output began as `said_to`. It was

@@ -9,14 +9,14 @@ use Rattle.bio.specs.Requests.{has_data, has_fua}
 use Rattle.blockdev.specs.declared.device.BlockDev.{Ghosts}
 use Rattle.log_store.specs.Calls.{Same}
 use Rattle.recorder.specs.Acknowledged.{IsAcknowledged}
-use Rattle.recorder.specs.Calls.{Closes, Drains, Marks, Submits, core_of, recorder_view}
+use Rattle.recorder.specs.Calls.{Closes, Drains, Marks, SubmitsRequest, core_of, recorder_view}
 use Rattle.recorder.specs.Growth.{RecorderFrame}
 use Rattle.recorder.specs.declared.recorder.Recorder.{Recorder}
 use Rattle.recorder.specs.declared.reply.Reply.{Reply}
 use Rattle.recorder.specs.declared.reply.Reply.TheVariants as replies
 use Rattle.script_runner.specs.Lines.{PassesRequest, RecordsEnd, reply_of}
-use Rattle.nbd.specs.declared.fault.Fault.{Fault}
-use Rattle.nbd.specs.declared.fault.Fault.TheVariants as faults
+use Rattle.nbd.specs.declared.fault.RequestFault.{RequestFault}
+use Rattle.nbd.specs.declared.fault.RequestFault.TheVariants as faults
 use Rattle.nbd.specs.declared.server.Server.{Server}
 use Rattle.nbd.specs.Wire.{fault_of_device}
 
@@ -26,7 +26,7 @@ pub record IsTimed {L : Type 0} {l : Ghosts L} (now : ℕ) (old new : Recorder L
   pub end : new.end ≡ old.end
   pub store : Same (recorder_view old).store (recorder_view new).store
   pub device : new.store.device ≡ old.store.device
-  pub moment : new.store.moment ≡ now
+  pub time : new.store.time ≡ now
 
 -- How any call may change a server: its recorder as the recorder's own calls may. The data device
 -- keeps its size.
@@ -41,14 +41,14 @@ abbrev pub Empties : {L : Type 0} {l : Ghosts L} → Recorder L l → Recorder L
 Empties old new = (drained : Result Unit End) × Drains drained old new
 
 -- the result of a request that the data device answered so
-abbrev pub result_of : Result ℕ DevError → Result Unit Fault
+abbrev pub result_of : Result ℕ DevError → Result Unit RequestFault
 result_of (Ok end) = Ok tt
 result_of (Err error) = Err (fault_of_device error)
 
 -- A request is passed to the data device at the time `now`, and its end is recorded with the
 -- device's result.
 pub record CarriesOut {D L : Type 0} {d : Ghosts D} {l : Ghosts L} (now : ℕ) (bio : Bio)
-    (id : Option ℕ) (result : Result Unit Fault) (old new : Server D L d l) : Type 0 where
+    (id : Option ℕ) (result : Result Unit RequestFault) (old new : Server D L d l) : Type 0 where
   pub answer : Result ℕ DevError
   pub hands_over : PassesRequest d.does now bio answer old.disk new.disk
   pub ends : RecordsEnd id (is_ok answer) old.recorder new.recorder
@@ -56,14 +56,14 @@ pub record CarriesOut {D L : Type 0} {d : Ghosts D} {l : Ghosts L} (now : ℕ) (
 
 -- A request is recorded from its submission to its end, at the time `now`. In between it is done on
 -- the data device, whose result is recorded. At last the log's writer takes turns.
-pub record Records {D L : Type 0} {d : Ghosts D} {l : Ghosts L} (now : ℕ) (bio : Bio)
-    (id : Option ℕ) (result : Result Unit Fault) (old new : Server D L d l) : Type 0 where
+pub record RecordsRequest {D L : Type 0} {d : Ghosts D} {l : Ghosts L} (now : ℕ) (bio : Bio)
+    (id : Option ℕ) (result : Result Unit RequestFault) (old new : Server D L d l) : Type 0 where
   pub timed : Server D L d l
   pub times : IsTimed now old.recorder timed.recorder
   pub before : timed.disk ≡ old.disk
   -- None if the request isn't recorded, because logging has ended
   pub submitted : Server D L d l
-  pub submits : Submits bio (reply_of id) timed.recorder submitted.recorder
+  pub submits : SubmitsRequest bio (reply_of id) timed.recorder submitted.recorder
   pub waits : submitted.disk ≡ timed.disk
   pub done : Server D L d l
   pub carries_out : CarriesOut now bio id result submitted done
@@ -74,10 +74,10 @@ pub record Records {D L : Type 0} {d : Ghosts D} {l : Ghosts L} (now : ℕ) (bio
 -- and logging ends.
 abbrev pub IsShort : {L : Type 0} {l : Ghosts L} → Bio → Recorder L l → Recorder L l → Type 0
 IsShort bio old new = ((has_data bio ≡ true) × (new ≡ old))
-    ⊎ Submits bio (replies.Refused refusals.Memory) old new
+    ⊎ SubmitsRequest bio (replies.Refused refusals.Memory) old new
 
 -- Memory for a request ran out, and the data device isn't called.
-pub record LacksMemory {D L : Type 0} {d : Ghosts D} {l : Ghosts L} (now : ℕ) (bio : Bio)
+pub record LacksRequestMemory {D L : Type 0} {d : Ghosts D} {l : Ghosts L} (now : ℕ) (bio : Bio)
     (old new : Server D L d l) : Type 0 where
   pub timed : Server D L d l
   pub times : IsTimed now old.recorder timed.recorder
@@ -92,22 +92,22 @@ IsSure None recorder = is_some recorder.end ≡ true
 
 -- Why a request fails: the data device failed it; or memory ran out; or the data device did it, but
 -- it has FUA and the recorder isn't sure of it.
-abbrev pub Fails : {D L : Type 0} {d : Ghosts D} {l : Ghosts L} → ℕ → Bio → Fault → Server D L d l
+abbrev pub FailsRequest : {D L : Type 0} {d : Ghosts D} {l : Ghosts L} → ℕ → Bio → RequestFault → Server D L d l
     → Server D L d l → Type 0
-Fails now bio fault old new =
-    ((id : Option ℕ) × Records now bio id (Err fault) old new)
-    ⊎ ((LacksMemory now bio old new × (fault ≡ faults.NoMemory))
+FailsRequest now bio fault old new =
+    ((id : Option ℕ) × RecordsRequest now bio id (Err fault) old new)
+    ⊎ ((LacksRequestMemory now bio old new × (fault ≡ faults.NoMemory))
     ⊎ (((has_data bio ≡ true) × (new ≡ old) × (fault ≡ faults.NoMemory))
-    ⊎ ((id : Option ℕ) × Records now bio id (Ok tt) old new × (has_fua bio ≡ true)
+    ⊎ ((id : Option ℕ) × RecordsRequest now bio id (Ok tt) old new × (has_fua bio ≡ true)
     × (fault ≡ faults.Io))))
 
 -- What a request gives. Ok: the data device did it, and if it has FUA, the recorder is sure of it.
-abbrev pub Gives : {D L : Type 0} {d : Ghosts D} {l : Ghosts L} → ℕ → Bio → Result Unit Fault
+abbrev pub GivesResult : {D L : Type 0} {d : Ghosts D} {l : Ghosts L} → ℕ → Bio → Result Unit RequestFault
     → Server D L d l → Server D L d l → Type 0
-Gives now bio (Ok done) old new =
-    (id : Option ℕ) × Records now bio id (Ok tt) old new
+GivesResult now bio (Ok done) old new =
+    (id : Option ℕ) × RecordsRequest now bio id (Ok tt) old new
     × (has_fua bio ≡ true → IsSure id new.recorder)
-Gives now bio (Err fault) old new = Fails now bio fault old new
+GivesResult now bio (Err fault) old new = FailsRequest now bio fault old new
 
 -- A mark is passed to the recorder.
 abbrev pub Notes : {L : Type 0} {l : Ghosts L} → List ℕ → Recorder L l → Recorder L l → Type 0
@@ -129,7 +129,7 @@ pub record NotesMark {D L : Type 0} {d : Ghosts D} {l : Ghosts L} (now : ℕ) (t
 
 -- Recording is closed at the time `now`. Then the log's writer takes turns until the log is complete
 -- or logging ends.
-pub record Ends {D L : Type 0} {d : Ghosts D} {l : Ghosts L} (now : ℕ)
+pub record EndsLog {D L : Type 0} {d : Ghosts D} {l : Ghosts L} (now : ℕ)
     (old new : Server D L d l) : Type 0 where
   pub timed : Server D L d l
   pub times : IsTimed now old.recorder timed.recorder

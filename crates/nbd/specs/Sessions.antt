@@ -4,7 +4,7 @@ use Rattle.std.specs.Prelude.{◌≡◌, ◌⊎◌, ◌*◌, ◌++◌, ℕ, List
 use Rattle.blockdev.specs.declared.device.BlockDev.{Ghosts}
 use Rattle.nbd.specs.declared.negotiation.Export.{Export}
 use Rattle.nbd.specs.declared.server.Server.{Server}
-use Rattle.nbd.specs.Negotiation.{Begins}
+use Rattle.nbd.specs.Negotiation.{HandshakeBegins}
 use Rattle.nbd.specs.Requests.{BreaksOff, Disconnects}
 
 -- What a server offers: its whole data device, in blocks of the log's sectors.
@@ -14,11 +14,11 @@ export_of {d = d} server =
 
 -- A client sent `taken`, and `out` was sent back: the handshake, and then the requests up to the one
 -- by which the client disconnected.
-pub record IsPlayed {D L : Type 0} {d : Ghosts D} {l : Ghosts L} (taken out : List ℕ)
+pub record SessionIsPlayed {D L : Type 0} {d : Ghosts D} {l : Ghosts L} (taken out : List ℕ)
     (old new : Server D L d l) : Type 0 where
   pub hello : List ℕ
   pub greeted : List ℕ
-  pub begins : Begins (export_of old) hello greeted
+  pub begins : HandshakeBegins (export_of old) hello greeted
   pub asked : List ℕ
   pub replied : List ℕ
   pub disconnects : Disconnects asked replied old new
@@ -32,5 +32,5 @@ abbrev pub IsBroken : {D L : Type 0} {d : Ghosts D} {l : Ghosts L} → Option (L
 IsBroken heard_from said_to old new =
     (new ≡ old)
     ⊎ ((hello greeted : List ℕ) × (left sent : Option (List ℕ)) × Consumes heard_from left hello
-    × Appends said_to sent greeted × Begins (export_of old) hello greeted
+    × Appends said_to sent greeted × HandshakeBegins (export_of old) hello greeted
     × BreaksOff left sent old new)

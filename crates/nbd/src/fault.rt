@@ -8,7 +8,7 @@ use thiserror::Error;
 /// Why a request failed, as its reply tells the client. The numbers are those of doc/proto.md,
 /// "Error values", which are Linux's.
 #[derive(Clone, Copy, Debug, PartialEq, Eq, Error)]
-pub enum Fault {
+pub enum RequestFault {
     /// The data device failed the request, or the log couldn't be made sure of a write with FUA.
     #[error("the device failed the request")]
     Io,
@@ -23,38 +23,38 @@ pub enum Fault {
     NoSpace,
 }
 
-impl Fault {
+impl RequestFault {
     /// Returns the number that a reply has for the error.
     pub fn number(self) -> u32
         ensures { result ≡ fault_number self }
     {
         match self {
-            Fault::Io => 5,
-            Fault::NoMemory => 12,
-            Fault::Invalid => 22,
-            Fault::NoSpace => 28,
+            RequestFault::Io => 5,
+            RequestFault::NoMemory => 12,
+            RequestFault::Invalid => 22,
+            RequestFault::NoSpace => 28,
         }
     }
 }
 
-impl From<DevError> for Fault {
+impl From<DevError> for RequestFault {
     ghost from_gives = { λ error fault. fault ≡ fault_of_device error };
 
-    fn from(error: DevError) -> Fault {
+    fn from(error: DevError) -> RequestFault {
         match error {
-            DevError::Io => Fault::Io,
-            DevError::Memory => Fault::NoMemory,
+            DevError::Io => RequestFault::Io,
+            DevError::Memory => RequestFault::NoMemory,
         }
     }
 }
 
-impl From<BadBio> for Fault {
+impl From<BadBio> for RequestFault {
     ghost from_gives = { λ bad fault. fault ≡ fault_of_bad bad };
 
-    fn from(bad: BadBio) -> Fault {
+    fn from(bad: BadBio) -> RequestFault {
         match bad {
-            BadBio::PastEnd => Fault::NoSpace,
-            _ => Fault::Invalid,
+            BadBio::PastEnd => RequestFault::NoSpace,
+            _ => RequestFault::Invalid,
         }
     }
 }

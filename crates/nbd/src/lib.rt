@@ -12,14 +12,14 @@
 //! mean, `specs/Serving` what each request does, `specs/Requests` what a session does.
 #![tactic(auto)]
 
-pub use fault::Fault;
+pub use fault::RequestFault;
 pub use host::Host;
 pub use negotiation::{Export, Negotiated, negotiate};
 pub use range::Range;
 pub use server::Server;
 pub use serving::{Served, serve};
 pub use session::{SessionEnd, transmit};
-pub use wire::{Command, Header, REQUEST_BYTES};
+pub use wire::{REQUEST_BYTES, RequestHeader, RequestKind};
 
 mod fault;
 mod host;

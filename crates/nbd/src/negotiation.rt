@@ -4,7 +4,7 @@ ghost use Rattle.std.specs.Prelude.{◌≡◌, ◌⊎◌, ◌++◌, ◌<◌, ◌
 ghost use Rattle.std.specs.Prelude.{drop, length, ℕ};
 ghost use Rattle.byteorder.specs.Endian.{big_number};
 ghost use Rattle.std.specs.Io.KnownBytes.{Appends, Consumes};
-ghost use Rattle.nbd.specs.Negotiation.{Agrees, Begins, IsOption, Sent, export_info, is_info};
+ghost use Rattle.nbd.specs.Negotiation.{AgreesOnOptions, HandshakeBegins, IsOption, Sent, export_info, is_info};
 ghost use Rattle.nbd.specs.Negotiation.{option_end, option_number, option_reply, padding, replies};
 ghost use Rattle.nbd.specs.Negotiation.{replies_to, reply_head, sent_bytes, sizes_info};
 
@@ -76,7 +76,7 @@ const INVALID: u32 = 0x8000_0003;
 
 // An option that a client asks for: its number and its data.
 #[derive(Drop)]
-struct Asked {
+struct ClientOption {
     number: u32,
     body: Vec<u8>,
 }
@@ -99,7 +99,7 @@ pub fn negotiate<I: Read, O: Write>(
     ensures begins { result ≡ Ok Negotiated.Begun → (taken out : List ℕ)
         × Consumes (I.remaining input.old) (I.remaining input.new) taken
         × Appends (O.contents output.old) (O.contents output.new) out
-        × Begins export taken out }
+        × HandshakeBegins export taken out }
 {
     send(output, GREETING)?;
     let mut flags = [0; 4];
@@ -123,7 +123,7 @@ fn answer_options<I: Read, O: Write>(
     ensures begins { result ≡ Ok Negotiated.Begun → (taken out : List ℕ)
         × Consumes (I.remaining input.old) (I.remaining input.new) taken
         × Appends (O.contents output.old) (O.contents output.new) out
-        × Agrees export flags taken out }
+        × AgreesOnOptions export flags taken out }
 {
     for _ in 0..u64::MAX {
         if let Some(end) = answer_option(alloc, export, flags, input, output)? {
@@ -163,7 +163,7 @@ fn answer_option<I: Read, O: Write>(
 }
 
 // Reads the next option.
-fn read_option<I: Read>(alloc: Global, input: &mut I) -> Result<Asked, SessionEnd>
+fn read_option<I: Read>(alloc: Global, input: &mut I) -> Result<ClientOption, SessionEnd>
     ensures { IfOk result (λ asked. (sent : Sent) × IsOption sent
         × (asked.number ≡ option_number sent) × (asked.body.items ≡ sent.body)
         × Consumes (I.remaining input.old) (I.remaining input.new) (sent_bytes sent)) }
@@ -177,7 +177,7 @@ fn read_option<I: Read>(alloc: Global, input: &mut I) -> Result<Asked, SessionEn
         return Err(SessionEnd::NoMemory);
     };
     take_all(input, &mut body)?;
-    Ok(Asked {
+    Ok(ClientOption {
         number: head.number,
         body,
     })
@@ -294,7 +294,6 @@ fn push_reply(bytes: &mut Vec<u8>, option: u32, kind: u32, body: &[u8]) -> Resul
     bytes.extend_from_slice(body)
 }
 
-// Returns the header of an option's reply.
 #[tactic(auto, unfolding(crate::specs::Negotiation::reply_head))]
 fn reply_header(option: u32, kind: u32, length: u32) -> [u8; 20]
     ensures { result ≡ reply_head option kind length }

@@ -58,7 +58,6 @@ fn skip_by<I: Read>(input: &mut I, count: u64, piece: &mut [u8]) -> Result<(), S
     Ok(())
 }
 
-// Writes all bytes to the output.
 pub(crate) fn send<O: Write>(output: &mut O, bytes: &[u8]) -> Result<(), SessionEnd>
     ensures sends { OnOk result
         (Appends (O.contents output.old) (O.contents output.new) bytes.now) }

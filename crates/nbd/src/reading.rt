@@ -2,16 +2,16 @@
 ghost use Rattle.std.specs.Prelude.{min, ◌≡◌, ◌≢◌, ◌<◌, ◌≤◌, Err, IfOk, OnOk, List, length, ◌*◌, ℕ};
 ghost use Rattle.std.specs.Io.KnownBytes.{Appends};
 ghost use Rattle.bio.specs.Content.{gather};
-ghost use Rattle.nbd.specs.Requests.{AnswersRead, IsInDevice, OnlyReads, SendsRange};
+ghost use Rattle.nbd.specs.Requests.{AnswersRead, IsInDevice, OnlyReadsData, SendsRange};
 ghost use Rattle.nbd.specs.Serving.{ServerFrame};
 
-use crate::fault::Fault;
+use crate::fault::RequestFault;
 use crate::laws::servers_go_as_one;
 use crate::pipes::send;
 use crate::range::{Range, range_of};
 use crate::server::Server;
 use crate::session::{SessionEnd, reply};
-use crate::wire::{Header, reply_header};
+use crate::wire::{RequestHeader, reply_header};
 use bio::{MAX_REQUEST_SECTORS, Ms, SECTOR_BYTES};
 use blockdev::BlockDev;
 use std::alloc::{AllocError, Global};
@@ -21,14 +21,14 @@ use std::io::Write;
 #[tactic(auto, using(crate::proofs::Parts::reads_none))]
 pub(crate) fn answer_read<D: BlockDev + Drop, L: BlockDev + Drop, O: Write>(
     server: &mut Server<D, L>,
-    header: &Header,
+    header: &RequestHeader,
     now: Ms,
     output: &mut O,
 ) -> Result<(), SessionEnd>
     ensures answers { OnOk result ((out : List ℕ)
         × Appends (O.contents output.old) (O.contents output.new) out
         × AnswersRead header.now out server.old server.new) }
-    ensures only { OnlyReads server.old server.new }
+    ensures only { OnlyReadsData server.old server.new }
     ensures not_ended { result ≢ Err SessionEnd.InputEnded }
     ensures goes { ServerFrame server.old server.new }
 {
@@ -54,14 +54,14 @@ fn answer_range<D: BlockDev + Drop, L: BlockDev + Drop, O: Write>(
     ensures answers { OnOk result ((out : List ℕ)
         × Appends (O.contents output.old) (O.contents output.new) out
         × SendsRange range cookie out server.old server.new) }
-    ensures only { OnlyReads server.old server.new }
+    ensures only { OnlyReadsData server.old server.new }
     ensures not_ended { result ≢ Err SessionEnd.InputEnded }
     ensures goes { ServerFrame server.old server.new }
 {
     // For the prover: `ServerFrame` holds if nothing happens.
     servers_go_as_one::<D, L>();
     let Ok(mut buffer) = buffer_for(server.alloc(), range.count.min(MAX_REQUEST_SECTORS)) else {
-        return reply(output, cookie, Err(Fault::NoMemory));
+        return reply(output, cookie, Err(RequestFault::NoMemory));
     };
     if range.count <= MAX_REQUEST_SECTORS {
         return answer_short(server, range, cookie, now, buffer.as_mut_slice(), output);
@@ -84,7 +84,7 @@ fn answer_short<D: BlockDev + Drop, L: BlockDev + Drop, O: Write>(
     ensures answers { OnOk result ((out : List ℕ)
         × Appends (O.contents output.old) (O.contents output.new) out
         × SendsRange range cookie out server.old server.new) }
-    ensures only { OnlyReads server.old server.new }
+    ensures only { OnlyReadsData server.old server.new }
     ensures not_ended { result ≢ Err SessionEnd.InputEnded }
     ensures goes { ServerFrame server.old server.new }
 {
@@ -113,7 +113,7 @@ fn answer_long<D: BlockDev + Drop, L: BlockDev + Drop, O: Write>(
     ensures answers { OnOk result ((out : List ℕ)
         × Appends (O.contents output.old) (O.contents output.new) out
         × SendsRange range cookie out server.old server.new) }
-    ensures only { OnlyReads server.old server.new }
+    ensures only { OnlyReadsData server.old server.new }
     ensures not_ended { result ≢ Err SessionEnd.InputEnded }
     ensures goes { ServerFrame server.old server.new }
 {
@@ -134,11 +134,11 @@ fn try_parts<D: BlockDev + Drop, L: BlockDev + Drop>(
     range: Range,
     now: Ms,
     buffer: &mut [u8],
-) -> Result<(), Fault>
+) -> Result<(), RequestFault>
     requires device { IsInDevice server.old range }
     requires buffer { length buffer.old ≡ min range.count 2048 * 512 }
     ensures length { length buffer.new ≡ length buffer.old }
-    ensures only { OnlyReads server.old server.new }
+    ensures only { OnlyReadsData server.old server.new }
     ensures goes { ServerFrame server.old server.new }
 {
     // For the prover: `ServerFrame` holds for two calls if it holds for each.
@@ -167,7 +167,7 @@ fn send_parts<D: BlockDev + Drop, L: BlockDev + Drop, O: Write>(
     requires buffer { length buffer.old ≡ min range.count 2048 * 512 }
     ensures sends { OnOk result (Appends (O.contents output.old) (O.contents output.new)
         (gather (D.shown server.old.disk).content range.first range.count)) }
-    ensures only { OnlyReads server.old server.new }
+    ensures only { OnlyReadsData server.old server.new }
     ensures not_ended { result ≢ Err SessionEnd.InputEnded }
     ensures goes { ServerFrame server.old server.new }
 {

@@ -3,7 +3,7 @@ ghost use Rattle.std.specs.Prelude.{◌≡◌};
 ghost use Rattle.bio.specs.Requests.{bytes_of};
 ghost use Rattle.recorder.specs.Calls.{core_of};
 
-use crate::fault::Fault;
+use crate::fault::RequestFault;
 use crate::laws::servers_go_as_one;
 use bio::{Bio, Bytes, Event, Id, Ms, SectorSize};
 use blockdev::BlockDev;
@@ -30,10 +30,10 @@ impl<D: BlockDev + Drop, L: BlockDev + Drop> Server<D, L> {
     ghost use Rattle.bio.specs.Content.{gather};
     ghost use Rattle.bio.specs.Requests.{bytes_of, check_answer, check_sized_answer, is_tracked};
     ghost use Rattle.blockdev.specs.View.{IsByteRange};
-    ghost use Rattle.recorder.specs.Calls.{Submits, core_of};
+    ghost use Rattle.recorder.specs.Calls.{SubmitsRequest, core_of};
     ghost use Rattle.script_runner.specs.Lines.{reply_of};
-    ghost use Rattle.nbd.specs.Requests.{OnlyReads};
-    ghost use Rattle.nbd.specs.Serving.{CarriesOut, Empties, Ends, Gives, IsClosedBy, IsShort, IsSure};
+    ghost use Rattle.nbd.specs.Requests.{OnlyReadsData};
+    ghost use Rattle.nbd.specs.Serving.{CarriesOut, Empties, EndsLog, GivesResult, IsClosedBy, IsShort, IsSure};
     ghost use Rattle.nbd.specs.Serving.{IsTimed, Notes, NotesMark, ServerFrame};
 
     /// Returns the server of a session that hasn't begun. The recorder's log has sectors of `size`.
@@ -49,7 +49,6 @@ impl<D: BlockDev + Drop, L: BlockDev + Drop> Server<D, L> {
         }
     }
 
-    /// Returns the recorder.
     pub fn recorder(&self) -> &Recorder<L>
         ensures { result.now ≡ self.now.recorder }
     {
@@ -106,11 +105,11 @@ impl<D: BlockDev + Drop, L: BlockDev + Drop> Server<D, L> {
     /// Records a request and does it on the data device. Then the log's writer takes turns until
     /// nothing is left to write or logging ends. A write with FUA ends well only if the recorder
     /// acknowledges it, or if logging has ended.
-    pub fn record(&mut self, now: Ms, bio: Bio) -> Result<(), Fault>
+    pub fn record(&mut self, now: Ms, bio: Bio) -> Result<(), RequestFault>
         requires fits { check_sized_answer (bytes_of self.old.size) bio
             (D.shown self.old.disk).size ≡ Ok tt }
         requires tracked { is_tracked bio ≡ true }
-        ensures gives { Gives now bio result self.old self.new }
+        ensures gives { GivesResult now bio result self.old self.new }
         ensures goes { ServerFrame self.old self.new }
     {
         // For the prover: `ServerFrame` holds for two calls if it holds for each. What fits the
@@ -134,27 +133,27 @@ impl<D: BlockDev + Drop, L: BlockDev + Drop> Server<D, L> {
 
     // Submits a request to the recorder. Returns the id by which the recorder tracks it, or None if
     // it isn't recorded any more.
-    fn submit(&mut self, bio: &Bio) -> Result<Option<Id>, Fault>
+    fn submit(&mut self, bio: &Bio) -> Result<Option<Id>, RequestFault>
         requires { check_sized_answer (core_of self.old.recorder).sector_bytes bio.now 1048576 ≡ Ok tt }
         ensures submits { IfOk result
-            (λ id. Submits bio.now (reply_of id) self.old.recorder self.new.recorder) }
-        ensures short { IfErr result (λ fault. (fault ≡ Fault.NoMemory)
+            (λ id. SubmitsRequest bio.now (reply_of id) self.old.recorder self.new.recorder) }
+        ensures short { IfErr result (λ fault. (fault ≡ RequestFault.NoMemory)
             × IsShort bio.now self.old.recorder self.new.recorder) }
         ensures device { self.new.disk ≡ self.old.disk }
         ensures goes { ServerFrame self.old self.new }
     {
         let Ok(asked) = bio.clone() else {
-            return Err(Fault::NoMemory);
+            return Err(RequestFault::NoMemory);
         };
         match self.recorder.event(Event::Submit(asked)) {
             Reply::Tracked(id) => Ok(Some(id)),
             Reply::Passed => Ok(None),
-            _ => Err(Fault::NoMemory),
+            _ => Err(RequestFault::NoMemory),
         }
     }
 
     // Does a request on the data device, and records its end with the device's result.
-    fn carry_out(&mut self, now: Ms, bio: &Bio, id: &Option<Id>) -> Result<(), Fault>
+    fn carry_out(&mut self, now: Ms, bio: &Bio, id: &Option<Id>) -> Result<(), RequestFault>
         requires { IsTrue (is_ok (check_answer bio.now (D.shown self.old.disk).size)) }
         ensures does { CarriesOut now bio.now id.now result self.old self.new }
         ensures goes { ServerFrame self.old self.new }
@@ -163,28 +162,28 @@ impl<D: BlockDev + Drop, L: BlockDev + Drop> Server<D, L> {
         complete_request(&mut self.recorder, *id, answer.is_ok());
         match answer {
             Ok(_) => Ok(()),
-            Err(error) => Err(Fault::from(error)),
+            Err(error) => Err(RequestFault::from(error)),
         }
     }
 
     // Returns an error if a request has FUA, and the recorder isn't sure of it.
-    fn confirm(&self, fua: bool, id: &Option<Id>) -> Result<(), Fault>
+    fn confirm(&self, fua: bool, id: &Option<Id>) -> Result<(), RequestFault>
         ensures sure { OnOk result (fua ≡ true → IsSure id.now self.now.recorder) }
-        ensures unsure { IfErr result (λ fault. (fault ≡ Fault.Io) × (fua ≡ true)) }
+        ensures unsure { IfErr result (λ fault. (fault ≡ RequestFault.Io) × (fua ≡ true)) }
     {
         if fua && !self.is_sure(id) {
-            return Err(Fault::Io);
+            return Err(RequestFault::Io);
         }
         Ok(())
     }
 
     /// Reads whole sectors of the data device, from sector `first` on.
-    pub fn read(&mut self, now: Ms, first: u64, buffer: &mut [u8]) -> Result<(), Fault>
+    pub fn read(&mut self, now: Ms, first: u64, buffer: &mut [u8]) -> Result<(), RequestFault>
         requires { IsByteRange (D.shown self.old.disk).size first (length buffer.old) }
         ensures bytes { OnOk result (buffer.new
             ≡ gather (D.shown self.old.disk).content first (length buffer.old / 512)) }
         ensures length { length buffer.new ≡ length buffer.old }
-        ensures only { OnlyReads self.old self.new }
+        ensures only { OnlyReadsData self.old self.new }
         ensures goes { ServerFrame self.old self.new }
     {
         recorder::laws::several_calls_go_as_one::<L>();
@@ -233,7 +232,7 @@ impl<D: BlockDev + Drop, L: BlockDev + Drop> Server<D, L> {
     /// Closes recording. Then the log's writer takes turns until the log is complete or logging
     /// ends. Refused if memory runs out.
     pub fn close(&mut self, now: Ms) -> Result<(), Refusal>
-        ensures ends { OnOk result (Ends now self.old self.new) }
+        ensures ends { OnOk result (EndsLog now self.old self.new) }
         ensures goes { ServerFrame self.old self.new }
     {
         servers_go_as_one::<D, L>();

@@ -3,8 +3,8 @@ ghost use Rattle.std.specs.Prelude.{◌≡◌, IfOk, List, Ok, ℕ};
 ghost use Rattle.std.specs.Io.KnownBytes.{Appends, Consumes};
 ghost use Rattle.nbd.specs.declared.server.Server.{Server};
 ghost use Rattle.nbd.specs.declared.session.SessionEnd.{SessionEnd};
-ghost use Rattle.nbd.specs.Sessions.{IsBroken, IsPlayed};
-ghost use Rattle.nbd.specs.Serving.{Ends, ServerFrame};
+ghost use Rattle.nbd.specs.Sessions.{IsBroken, SessionIsPlayed};
+ghost use Rattle.nbd.specs.Serving.{EndsLog, ServerFrame};
 
 use crate::host::Host;
 use crate::laws::servers_go_as_one;
@@ -39,13 +39,13 @@ pub fn serve<D: BlockDev + Drop, L: BlockDev + Drop, I: Read, O: Write, H: Host>
         × Consumes (I.remaining input.old) (I.remaining input.new) taken
         × Appends (O.contents output.old) (O.contents output.new) out
         × ((now : ℕ) × (last : Server D L D.BlockDev L.BlockDev)
-        × IsPlayed taken out server.old last × Ends now last server.new) }
+        × SessionIsPlayed taken out server.old last × EndsLog now last server.new) }
     ensures broke_off { (end : SessionEnd) → result ≡ Ok (Served.BrokeOff end) → (now : ℕ)
         × (last : Server D L D.BlockDev L.BlockDev)
         × IsBroken (I.remaining input.old) (O.contents output.old) server.old last
-        × Ends now last server.new }
+        × EndsLog now last server.new }
     ensures closes { IfOk result (λ how. (now : ℕ) × (last : Server D L D.BlockDev L.BlockDev)
-        × ServerFrame server.old last × Ends now last server.new) }
+        × ServerFrame server.old last × EndsLog now last server.new) }
     ensures goes { ServerFrame server.old server.new }
 {
     // For the prover: `ServerFrame` holds for two calls if it holds for each.
@@ -68,7 +68,7 @@ fn play<D: BlockDev + Drop, L: BlockDev + Drop, I: Read, O: Write, H: Host>(
     ensures plays { result ≡ Served.Disconnected → (taken out : List ℕ)
         × Consumes (I.remaining input.old) (I.remaining input.new) taken
         × Appends (O.contents output.old) (O.contents output.new) out
-        × IsPlayed taken out server.old server.new }
+        × SessionIsPlayed taken out server.old server.new }
     ensures breaks { (end : SessionEnd) → result ≡ Served.BrokeOff end
         → IsBroken (I.remaining input.old) (O.contents output.old) server.old server.new }
     ensures goes { ServerFrame server.old server.new }

@@ -2,17 +2,17 @@
 ghost use Rattle.std.specs.Prelude.{◌≡◌, ◌≢◌, ◌++◌, Err, IfErr, IfOk, OnOk, List, [], false, length, true, ℕ};
 ghost use Rattle.std.specs.Io.KnownBytes.{Appends, Consumes, IsAtEnd};
 ghost use Rattle.nbd.specs.declared.server.Server.{Server};
-ghost use Rattle.nbd.specs.Requests.{Answers, BreaksIn, BreaksOff, Disconnects, Plays};
+ghost use Rattle.nbd.specs.Requests.{RepliesTo, BreaksIn, BreaksOff, Disconnects, Plays};
 ghost use Rattle.nbd.specs.Serving.{ServerFrame};
 ghost use Rattle.nbd.specs.Wire.{command_of, error_of, reply_bytes};
 
-use crate::fault::Fault;
+use crate::fault::RequestFault;
 use crate::host::Host;
 use crate::laws::servers_go_as_one;
 use crate::pipes::{send, take};
 use crate::reading::answer_read;
 use crate::server::Server;
-use crate::wire::{Command, Header, REQUEST_BYTES, read_header, reply_header};
+use crate::wire::{REQUEST_BYTES, RequestHeader, RequestKind, read_header, reply_header};
 use crate::writing::{flush, trim, write};
 use bio::{End, Ms};
 use blockdev::BlockDev;
@@ -138,7 +138,7 @@ fn serve_request<D: BlockDev + Drop, L: BlockDev + Drop, I: Read, O: Write, H: H
     let Some(header) = read_header(bytes) else {
         return Err(SessionEnd::BadRequest);
     };
-    if let Command::Disconnect = header.command() {
+    if let RequestKind::Disconnect = header.command() {
         return Ok(false);
     }
     host.request_came(&header);
@@ -158,16 +158,16 @@ fn tell_end<H: Host>(host: &mut H, before: Option<End>, after: Option<End>) {
 // Does a request other than one to disconnect, and sends its reply.
 fn answer<D: BlockDev + Drop, L: BlockDev + Drop, I: Read, O: Write>(
     server: &mut Server<D, L>,
-    header: &Header,
+    header: &RequestHeader,
     now: Ms,
     input: &mut I,
     output: &mut O,
 ) -> Result<(), SessionEnd>
-    requires { command_of header.now.kind ≢ Command.Disconnect }
+    requires { command_of header.now.kind ≢ RequestKind.Disconnect }
     ensures answers { OnOk result ((body out : List ℕ)
         × Consumes (I.remaining input.old) (I.remaining input.new) body
         × Appends (O.contents output.old) (O.contents output.new) out
-        × Answers (command_of header.now.kind) now header.now body out server.old server.new) }
+        × RepliesTo (command_of header.now.kind) now header.now body out server.old server.new) }
     ensures breaks { BreaksIn server.old server.new }
     ensures ended { result ≡ Err SessionEnd.InputEnded → IsAtEnd (I.remaining input.new) }
     ensures goes { ServerFrame server.old server.new }
@@ -175,25 +175,25 @@ fn answer<D: BlockDev + Drop, L: BlockDev + Drop, I: Read, O: Write>(
     // For the prover: `ServerFrame` holds if nothing happens.
     servers_go_as_one::<D, L>();
     match header.command() {
-        Command::Read => answer_read(server, header, now, output),
-        Command::Write => answer_write(server, header, now, input, output),
-        Command::Flush => {
+        RequestKind::Read => answer_read(server, header, now, output),
+        RequestKind::Write => answer_write(server, header, now, input, output),
+        RequestKind::Flush => {
             let done = flush(server, now);
             reply(output, header.cookie, done)
         }
-        Command::Trim => {
+        RequestKind::Trim => {
             let done = trim(server, header, now);
             reply(output, header.cookie, done)
         }
-        Command::Other => reply(output, header.cookie, Err(Fault::Invalid)),
-        Command::Disconnect => Ok(()),
+        RequestKind::Other => reply(output, header.cookie, Err(RequestFault::Invalid)),
+        RequestKind::Disconnect => Ok(()),
     }
 }
 
 // Does a write, and sends its reply.
 fn answer_write<D: BlockDev + Drop, L: BlockDev + Drop, I: Read, O: Write>(
     server: &mut Server<D, L>,
-    header: &Header,
+    header: &RequestHeader,
     now: Ms,
     input: &mut I,
     output: &mut O,
@@ -201,7 +201,7 @@ fn answer_write<D: BlockDev + Drop, L: BlockDev + Drop, I: Read, O: Write>(
     ensures answers { OnOk result ((body out : List ℕ)
         × Consumes (I.remaining input.old) (I.remaining input.new) body
         × Appends (O.contents output.old) (O.contents output.new) out
-        × Answers Command.Write now header.now body out server.old server.new) }
+        × RepliesTo RequestKind.Write now header.now body out server.old server.new) }
     ensures breaks { BreaksIn server.old server.new }
     ensures ended { result ≡ Err SessionEnd.InputEnded → IsAtEnd (I.remaining input.new) }
     ensures goes { ServerFrame server.old server.new }
@@ -214,7 +214,7 @@ fn answer_write<D: BlockDev + Drop, L: BlockDev + Drop, I: Read, O: Write>(
 pub(crate) fn reply<O: Write>(
     output: &mut O,
     cookie: u64,
-    done: Result<(), Fault>,
+    done: Result<(), RequestFault>,
 ) -> Result<(), SessionEnd>
     ensures sends { OnOk result (Appends (O.contents output.old) (O.contents output.new)
         (reply_bytes (error_of done) cookie)) }

@@ -1,6 +1,6 @@
 //! The bytes of requests and replies. Numbers are big endian.
 ghost use Rattle.std.specs.Prelude.{◌≡◌, ◌≤◌, length};
-ghost use Rattle.nbd.specs.Wire.{command_of, has_fua_flag, header_of, reply_bytes};
+ghost use Rattle.nbd.specs.Wire.{command_of, has_fua_flag, request_header, reply_bytes};
 
 use byteorder::{BigEndian, ByteOrder};
 
@@ -18,7 +18,7 @@ const REPLY_MAGIC: u32 = 0x6744_6698;
 
 /// What a request asks for.
 #[derive(Clone, Copy, Debug, PartialEq, Eq)]
-pub enum Command {
+pub enum RequestKind {
     Read,
     Write,
     Disconnect,
@@ -31,7 +31,7 @@ pub enum Command {
 
 /// The header of a request.
 #[derive(Clone, Copy, Debug, PartialEq, Eq)]
-pub struct Header {
+pub struct RequestHeader {
     /// The command flags; bit 0 is FUA.
     pub flags: u16,
     /// The number of the command.
@@ -44,18 +44,18 @@ pub struct Header {
     pub length: u32,
 }
 
-impl Header {
+impl RequestHeader {
     /// Returns what the request asks for.
-    pub fn command(&self) -> Command
+    pub fn command(&self) -> RequestKind
         ensures { result ≡ command_of self.now.kind }
     {
         match self.kind {
-            0 => Command::Read,
-            1 => Command::Write,
-            2 => Command::Disconnect,
-            3 => Command::Flush,
-            4 => Command::Trim,
-            _ => Command::Other,
+            0 => RequestKind::Read,
+            1 => RequestKind::Write,
+            2 => RequestKind::Disconnect,
+            3 => RequestKind::Flush,
+            4 => RequestKind::Trim,
+            _ => RequestKind::Other,
         }
     }
 
@@ -69,15 +69,15 @@ impl Header {
 
 // Parses a request's header of `REQUEST_BYTES` bytes. Returns None if it doesn't begin with the
 // number of requests.
-#[tactic(auto, unfolding(crate::specs::Wire::header_of))]
-pub(crate) fn read_header(bytes: &[u8]) -> Option<Header>
+#[tactic(auto, unfolding(crate::specs::Wire::request_header))]
+pub(crate) fn read_header(bytes: &[u8]) -> Option<RequestHeader>
     requires { 28 ≤ length bytes.now }
-    ensures { result ≡ header_of bytes.now }
+    ensures { result ≡ request_header bytes.now }
 {
     if BigEndian::read_u32(bytes) != REQUEST_MAGIC {
         return None;
     }
-    Some(Header {
+    Some(RequestHeader {
         flags: BigEndian::read_u16(&bytes[4..]),
         kind: BigEndian::read_u16(&bytes[6..]),
         cookie: BigEndian::read_u64(&bytes[8..]),

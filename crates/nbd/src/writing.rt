@@ -6,16 +6,16 @@ ghost use Rattle.bio.specs.declared.request.Bio.{Bio};
 ghost use Rattle.bio.specs.declared.request.Bio.TheVariants as bios;
 ghost use Rattle.nbd.specs.Requests.{AreDiscards, BreaksIn, GiveInTurn, IsInDevice, Trims};
 ghost use Rattle.nbd.specs.Requests.{TrimsParts, WritesBody, WritesParts};
-ghost use Rattle.nbd.specs.Serving.{Gives, ServerFrame};
+ghost use Rattle.nbd.specs.Serving.{GivesResult, ServerFrame};
 
-use crate::fault::Fault;
+use crate::fault::RequestFault;
 use crate::laws::servers_go_as_one;
 use crate::pipes::{skip, take_all};
 use crate::range::{Range, range_of};
 use crate::reading::buffer_for;
 use crate::server::Server;
 use crate::session::SessionEnd;
-use crate::wire::Header;
+use crate::wire::RequestHeader;
 use bio::{Bio, Bytes, MAX_REQUEST_SECTORS, Ms, SECTOR_BYTES};
 use blockdev::BlockDev;
 use std::io::Read;
@@ -24,10 +24,10 @@ use std::io::Read;
 // fails, the later parts aren't done. All the data is read in any case.
 pub(crate) fn write<D: BlockDev + Drop, L: BlockDev + Drop, I: Read>(
     server: &mut Server<D, L>,
-    header: &Header,
+    header: &RequestHeader,
     now: Ms,
     input: &mut I,
-) -> Result<Result<(), Fault>, SessionEnd>
+) -> Result<Result<(), RequestFault>, SessionEnd>
     ensures writes { IfOk result (λ answer. (body : List ℕ) × (length body ≡ header.now.length)
         × Consumes (I.remaining input.old) (I.remaining input.new) body
         × WritesBody now header.now body answer server.old server.new) }
@@ -46,9 +46,9 @@ pub(crate) fn write<D: BlockDev + Drop, L: BlockDev + Drop, I: Read>(
 fn refuse_write<D: BlockDev + Drop, L: BlockDev + Drop, I: Read>(
     server: &mut Server<D, L>,
     bytes: u32,
-    fault: Fault,
+    fault: RequestFault,
     input: &mut I,
-) -> Result<Result<(), Fault>, SessionEnd>
+) -> Result<Result<(), RequestFault>, SessionEnd>
     ensures drops { IfOk result (λ answer. (answer ≡ Err fault) × ((body : List ℕ)
         × (length body ≡ bytes)
         × Consumes (I.remaining input.old) (I.remaining input.new) body)) }
@@ -69,7 +69,7 @@ fn write_parts<D: BlockDev + Drop, L: BlockDev + Drop, I: Read>(
     fua: bool,
     now: Ms,
     input: &mut I,
-) -> Result<Result<(), Fault>, SessionEnd>
+) -> Result<Result<(), RequestFault>, SessionEnd>
     requires { IsInDevice server.old range }
     ensures writes { IfOk result (λ answer. (body : List ℕ) × (length body ≡ range.count * 512)
         × Consumes (I.remaining input.old) (I.remaining input.new) body
@@ -102,13 +102,13 @@ fn write_part<D: BlockDev + Drop, L: BlockDev + Drop, I: Read>(
     fua: bool,
     now: Ms,
     input: &mut I,
-) -> Result<Result<(), Fault>, SessionEnd>
+) -> Result<Result<(), RequestFault>, SessionEnd>
     requires device { IsInDevice server.old part }
     requires some { 0 < part.count }
     requires short { part.count ≤ 2048 }
     ensures writes { IfOk result (λ answer. (body : List ℕ) × (length body ≡ part.count * 512)
         × Consumes (I.remaining input.old) (I.remaining input.new) body
-        × Gives now (bios.Write part.first body false fua false) answer server.old server.new) }
+        × GivesResult now (bios.Write part.first body false fua false) answer server.old server.new) }
     ensures kept { IfErr result (λ end. server.new ≡ server.old) }
     ensures ended { result ≡ Err SessionEnd.InputEnded → IsAtEnd (I.remaining input.new) }
     ensures goes { ServerFrame server.old server.new }
@@ -117,11 +117,11 @@ fn write_part<D: BlockDev + Drop, L: BlockDev + Drop, I: Read>(
     servers_go_as_one::<D, L>();
     let Ok(mut bytes) = buffer_for(server.alloc(), part.count) else {
         skip(input, part.count * SECTOR_BYTES)?;
-        return Ok(Err(Fault::NoMemory));
+        return Ok(Err(RequestFault::NoMemory));
     };
     take_all(input, &mut bytes)?;
     let Ok(bytes) = Bytes::from_vec(bytes).into_shared() else {
-        return Ok(Err(Fault::NoMemory));
+        return Ok(Err(RequestFault::NoMemory));
     };
     Ok(server.record(
         now,
@@ -139,9 +139,9 @@ fn write_part<D: BlockDev + Drop, L: BlockDev + Drop, I: Read>(
 // then if the trim has FUA. If a part fails, the later ones aren't done.
 pub(crate) fn trim<D: BlockDev + Drop, L: BlockDev + Drop>(
     server: &mut Server<D, L>,
-    header: &Header,
+    header: &RequestHeader,
     now: Ms,
-) -> Result<(), Fault>
+) -> Result<(), RequestFault>
     ensures trims { Trims now header.now result server.old server.new }
     ensures goes { ServerFrame server.old server.new }
 {
@@ -159,7 +159,7 @@ fn trim_parts<D: BlockDev + Drop, L: BlockDev + Drop>(
     range: Range,
     fua: bool,
     now: Ms,
-) -> Result<(), Fault>
+) -> Result<(), RequestFault>
     requires { IsInDevice server.old range }
     ensures trims { TrimsParts now fua range result server.old server.new }
     ensures goes { ServerFrame server.old server.new }
@@ -177,8 +177,8 @@ fn flush_if<D: BlockDev + Drop, L: BlockDev + Drop>(
     server: &mut Server<D, L>,
     fua: bool,
     now: Ms,
-) -> Result<(), Fault>
-    ensures gives { fua ≡ true → Gives now bios.Flush result server.old server.new }
+) -> Result<(), RequestFault>
+    ensures gives { fua ≡ true → GivesResult now bios.Flush result server.old server.new }
     ensures none { fua ≡ false → (result ≡ Ok tt) × (server.new ≡ server.old) }
     ensures goes { ServerFrame server.old server.new }
 {
@@ -195,7 +195,7 @@ fn discard_parts<D: BlockDev + Drop, L: BlockDev + Drop>(
     server: &mut Server<D, L>,
     range: Range,
     now: Ms,
-) -> Result<(), Fault>
+) -> Result<(), RequestFault>
     requires { IsInDevice server.old range }
     ensures discards { (parts : List Bio) × AreDiscards range.first range.count parts
         × GiveInTurn now parts result server.old server.new }
@@ -222,11 +222,11 @@ fn discard_part<D: BlockDev + Drop, L: BlockDev + Drop>(
     server: &mut Server<D, L>,
     part: Range,
     now: Ms,
-) -> Result<(), Fault>
+) -> Result<(), RequestFault>
     requires device { IsInDevice server.old part }
     requires some { 0 < part.count }
     requires short { part.count ≤ 2048 }
-    ensures gives { Gives now (bios.Discard part.first part.count) result server.old server.new }
+    ensures gives { GivesResult now (bios.Discard part.first part.count) result server.old server.new }
     ensures goes { ServerFrame server.old server.new }
 {
     server.record(
@@ -242,8 +242,8 @@ fn discard_part<D: BlockDev + Drop, L: BlockDev + Drop>(
 pub(crate) fn flush<D: BlockDev + Drop, L: BlockDev + Drop>(
     server: &mut Server<D, L>,
     now: Ms,
-) -> Result<(), Fault>
-    ensures gives { Gives now bios.Flush result server.old server.new }
+) -> Result<(), RequestFault>
+    ensures gives { GivesResult now bios.Flush result server.old server.new }
     ensures goes { ServerFrame server.old server.new }
 {
     server.record(now, Bio::Flush)

@@ -18,7 +18,7 @@ use Rattle.pending.proofs.WalkLaws.{sound-at, walk-last}
 use Rattle.pending.specs.ChainsView.{chain_in, turned}
 use Rattle.pending.specs.declared.chains.links.Links.{Links}
 use Rattle.pending.specs.declared.chains.walk.Walk.{Walk}
-use Rattle.pending.specs.inside.Tables.{values_left, IsLook, IsWay, times, times_in, Holds, IsRing}
+use Rattle.pending.specs.inside.Tables.{values_left, IsLook, IsWay, times, times_in, HoldChains, IsRing}
 use Rattle.pending.specs.inside.Tables.{Leads, values_of, seen_chains, seen_lasts, value_at}
 use Rattle.pending.specs.inside.Tables.{IsSound, filled, IsTable, after, last_in}
 
@@ -79,7 +79,7 @@ ring-closed next last [] row [] way = grind (arith, times-same)
 ring-closed next last (f ∷ fs) row [] way = grind (arith, leads-back, times-same)
 
 chain-closed : {next : List ℕ} {lasts : List (Option ℕ)} {chains : List (List ℕ)}
-    → Holds next lasts [] chains
+    → HoldChains next lasts [] chains
     → (chain row : ℕ) → 0 < times row (chain_in chains chain)
     → 0 < times (after next row) (chain_in chains chain)
 chain-closed {next} {lasts} {chains} h chain row some = by_last (last_in lasts chain) refl
@@ -96,7 +96,7 @@ chain-closed {next} {lasts} {chains} h chain row some = by_last (last_in lasts c
         let e = ap (times (after next row)) parts.2 in omega arith
 
 row-of : {next : List ℕ} {lasts : List (Option ℕ)} {chains : List (List ℕ)}
-    → Holds next lasts [] chains
+    → HoldChains next lasts [] chains
     → (chain last row : ℕ) → last_in lasts chain ≡ Some last → row < length next
     → after next row ≡ last
     → 0 < times row (chain_in chains chain)
@@ -115,7 +115,7 @@ way-end next from row (other ∷ rows) to way =
     grind (arith, way-end next row other rows to way.1, times-append)
 
 pub before-there : {next : List ℕ} {lasts : List (Option ℕ)} {chains : List (List ℕ)}
-    → Holds next lasts [] chains
+    → HoldChains next lasts [] chains
     → (chain last : ℕ) → last_in lasts chain ≡ Some last
     → (x : ℕ) × (x < length next) × (after next x ≡ last)
 before-there {next} {lasts} {chains} h chain last noted =
@@ -142,11 +142,11 @@ before-there {next} {lasts} {chains} h chain last noted =
 
 -- If the row before the last counts as the last, turning the chain gives the rows as they were.
 pub back-rows : {next : List ℕ} {lasts : List (Option ℕ)} {chains : List (List ℕ)}
-    → Holds next lasts [] chains
+    → HoldChains next lasts [] chains
     → (chain last row : ℕ) → last_in lasts chain ≡ Some last → row < length next
     → after next row ≡ last
     → (new : List ℕ) × (drop 1 new ++ take 1 new ≡ chain_in chains chain)
-    × Holds next (set lasts chain (Some row)) [] (set chains chain new)
+    × HoldChains next (set lasts chain (Some row)) [] (set chains chain new)
 back-rows {next} {lasts} {chains} h chain last row noted small leads =
     let ring = ring-at h chain last noted in
     let parts = around row (chain_in chains chain) (row-of h chain last row noted small leads) in

@@ -12,9 +12,9 @@ use Rattle.pending.specs.declared.chains.links.Links.{Links}
 use Rattle.pending.specs.declared.chains.walk.Walk.{Walk}
 use Rattle.pending.specs.ChainsView.{chain_in, count_in, lengthened, new_rows_room, preceded}
 use Rattle.pending.specs.ChainsView.{shortened}
-use Rattle.pending.specs.inside.Tables.{Changes, IsLoose, after, last_in, times, Holds, chains_of}
+use Rattle.pending.specs.inside.Tables.{Changes, IsLoose, after, last_in, times, HoldChains, chains_of}
 use Rattle.pending.specs.inside.Tables.{seen_chains, seen_lasts, value_at, values_of, shown_of}
-use Rattle.pending.specs.inside.Tables.{walked_in, IsOpen, IsSound, IsTable, IsWalk}
+use Rattle.pending.specs.inside.Tables.{walked_in, IsOpen, IsSound, IsTable, WalksChain}
 use Rattle.pending.proofs.RingLaws.{chain-map, value-there, values-first, times-same, in-put}
 use Rattle.pending.proofs.RingLaws.{in-other, there}
 use Rattle.pending.proofs.HoldsLaws.{none-at, default-grown, first-of, holds-more}
@@ -25,7 +25,7 @@ use Rattle.pending.proofs.TableLaws.{free-none, nothing-cut, open-taken, table-r
 pub on-some : {A : Type 0} (found : Option A) (P : Type 0) → P → OnSome found P
 on-some found P p = grind arith
 
-seen-free : (lasts : List (Option ℕ)) (walk : Option Walk) → IsWalk lasts walk
+seen-free : (lasts : List (Option ℕ)) (walk : Option Walk) → WalksChain lasts walk
     → last_in (seen_lasts lasts walk) 0 ≡ last_in lasts 0
 seen-free lasts walk walks = grind (arith, get_or-set_other)
 
@@ -46,11 +46,11 @@ pub sum-none : {X : Type 0} (f : X → ℕ) (n : ℕ) (x : X) → f x ≡ 0 → 
 sum-none f zero x none = refl
 sum-none f (suc n) x none = omega (arith, sum_by-cons f x (replicate n x), sum-none f n x none)
 
-pub holds-none : (n : ℕ) → Holds [] (replicate n None) [] (replicate n [])
+pub holds-none : (n : ℕ) → HoldChains [] (replicate n None) [] (replicate n [])
 holds-none n = grind (arith, length-replicate, default-in, sum-none)
 
 pub first-row : {next : List ℕ} {lasts : List (Option ℕ)} {loose : List ℕ} {chains : List (List ℕ)}
-    → Holds next lasts loose chains
+    → HoldChains next lasts loose chains
     → (chain last row : ℕ) → last_in lasts chain ≡ Some last → row ≡ after next last
     → (rest : List ℕ) × (chain_in chains chain ≡ row ∷ rest)
 first-row {next} {lasts} {loose} {chains} h chain last row noted is =
@@ -183,8 +183,8 @@ module _ {T : Type 0} where
       → (chain last row : ℕ) → 0 < chain → last_in links.lasts.items chain ≡ Some last
       → row ≡ after links.next.items last
       → (mid : Links) → Changes links mid 1
-      → (Holds links.next.items links.lasts.items [] (seen_chains links walk)
-      → Holds mid.next.items mid.lasts.items (row ∷ []) (shortened (seen_chains links walk) chain))
+      → (HoldChains links.next.items links.lasts.items [] (seen_chains links walk)
+      → HoldChains mid.next.items mid.lasts.items (row ∷ []) (shortened (seen_chains links walk) chain))
       → IsOpen mid.next.items mid.lasts.items (set rows row None) row
       (shortened (seen_chains links walk) chain)
   taken-open {links} {rows} {walk} s rest chain last row shown noted is mid changes step =
@@ -195,8 +195,8 @@ module _ {T : Type 0} where
       → IsOpen mid.next.items mid.lasts.items rows row chains
       → (new : Links) → Changes mid new 2
       → new.lasts.items ≡ set mid.lasts.items 0 (last_in new.lasts.items 0)
-      → (Holds mid.next.items mid.lasts.items (row ∷ []) chains
-      → Holds new.next.items (set mid.lasts.items 0 (last_in new.lasts.items 0)) []
+      → (HoldChains mid.next.items mid.lasts.items (row ∷ []) chains
+      → HoldChains new.next.items (set mid.lasts.items 0 (last_in new.lasts.items 0)) []
       (preceded chains 0 row))
       → IsTable new.next.items new.lasts.items rows (preceded chains 0 row)
   taken-table {mid} {rows} {row} {chains} o new changes noted step =
@@ -205,8 +205,8 @@ module _ {T : Type 0} where
   pub filled-table : {mid : Links} {rows : List (Option T)} {row : ℕ} {chains : List (List ℕ)}
       → IsOpen mid.next.items mid.lasts.items rows row chains
       → (new : Links) (most chain : ℕ) (value : T) → 0 < chain → Changes mid new most
-      → (Holds mid.next.items mid.lasts.items (row ∷ []) chains
-      → Holds new.next.items new.lasts.items [] (lengthened chains chain row))
+      → (HoldChains mid.next.items mid.lasts.items (row ∷ []) chains
+      → HoldChains new.next.items new.lasts.items [] (lengthened chains chain row))
       → IsTable new.next.items new.lasts.items (set rows row (Some value))
       (lengthened chains chain row)
   filled-table {mid} {rows} {row} {chains} o new most chain value shown changes step =
@@ -226,7 +226,7 @@ module _ {T : Type 0} where
       let R : List (Option T) → Type 0 =
       λ r. IsTable links.next.items (seen_lasts links.lasts.items walk) r
       (seen_chains links walk) in
-      let W : List (Option ℕ) → Type 0 = λ l. IsWalk l walk in
+      let W : List (Option ℕ) → Type 0 = λ l. WalksChain l walk in
       record {
         table = subst P (sym e) (subst Q (sym d) (subst R (sym f) s.table));
         walks = subst W (sym d) s.walks;

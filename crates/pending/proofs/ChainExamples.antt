@@ -1,6 +1,6 @@
 -- Examples of chains and links, by computation.
 use Rattle.std.proofs.Common.{◌≡◌, ℕ, List, [], ◌∷◌, None, refl, arith}
-use Rattle.pending.specs.ChainsView.{new_rows_room, ChangesFew, KeepsRoom, Shown}
+use Rattle.pending.specs.ChainsView.{new_rows_room, ChangesFew, KeepsRoom, ShownChains}
 use Rattle.pending.specs.ChainsView.{fronted, joined, lengthened, lifted, shortened}
 use Rattle.pending.specs.ChainsView.{turned, with_first}
 use Rattle.pending.specs.Lends.{with_value}
@@ -38,7 +38,7 @@ unfolding three
 replaced = refl
 
 -- what is seen after `changed` changes
-shown : ℕ → ℕ → Shown ℕ
+shown : ℕ → ℕ → ShownChains ℕ
 shown changed spare =
     record { chains = three; changed = changed; walked = None; rows = 3; room = 0; spare = spare }
 

@@ -166,7 +166,7 @@ durable-queued events moment sector id safe durable =
     second_holds false b h = h
 
 -- `later` finds `earlier`, which ended before it: they overlap, or `later` has a flush.
-pub record IsFound (events : List CoreEvent) (earlier later : ℕ) : Type 0 where
+pub record FindsEarlier (events : List CoreEvent) (earlier later : ℕ) : Type 0 where
   pub first : Bio
   pub second : Bio
   pub first_is : slice_get events earlier ≡ Some (Submit first)
@@ -177,14 +177,14 @@ pub record IsFound (events : List CoreEvent) (earlier later : ℕ) : Type 0 wher
   pub why : (overlaps first second ≡ true) ⊎ (has_flush second ≡ true)
 
 own-needs : (events : List CoreEvent) (earlier later event : ℕ)
-    → (found : IsFound events earlier later)
+    → (found : FindsEarlier events earlier later)
     → (has_flush found.second || has_fua found.second) ≡ true
     → is_needed_by events found.end found.first event later found.second ≡ true
 own-needs events earlier later event found own =
     grind (arith, needed-flush, bool_cases, needed-linked, linked-here)
 
 found-needed : (events : List CoreEvent) (earlier later end event : ℕ)
-    → (found : IsFound events earlier later) → end_of events later ≡ Some end
+    → (found : FindsEarlier events earlier later) → end_of events later ≡ Some end
     → queue_of log_writes_order events later (slice_get events later) ≡ Some event
     → (log_writes_order events found.end (Some (Submit found.first)) event (slice_get events event)
     ≡ true) × (found.end < event)
@@ -251,7 +251,7 @@ found-needed events earlier later end event found ends queued =
     meets plain (inr flush) = grind arith
 
 pub found-queued : (events : List CoreEvent) (earlier later event : ℕ)
-    → (found : IsFound events earlier later)
+    → (found : FindsEarlier events earlier later)
     → queue_event log_writes_order events later ≡ Some event
     → IsQueuedBy events earlier event
 found-queued events earlier later event found queued = elim (option_cases (end_of events later)) [
@@ -269,7 +269,7 @@ found-queued events earlier later event found queued = elim (option_cases (end_o
 ]
 
 pub found-first : (size : ℕ) (events : List CoreEvent) (earlier later i j : ℕ) (x y : Entry)
-    → is_well_formed events ≡ true → IsFound events earlier later
+    → is_well_formed events ≡ true → FindsEarlier events earlier later
     → slice_get (completion_list (dm_log_writes size) events) i ≡ Some (earlier, x)
     → slice_get (completion_list (dm_log_writes size) events) j ≡ Some (later, y) → i < j
 found-first size events earlier later i j x y well_formed found first second =
@@ -305,7 +305,7 @@ found-first size events earlier later i j x y well_formed found first second =
     ]
 
 pub found-stands : (size : ℕ) (events : List CoreEvent) (earlier later j : ℕ)
-    → is_well_formed events ≡ true → IsFound events earlier later
+    → is_well_formed events ≡ true → FindsEarlier events earlier later
     → IsListedAt (completion_list (dm_log_writes size) events) later j
     → (i : ℕ) × IsListedAt (completion_list (dm_log_writes size) events) earlier i × (i < j)
 found-stands size events earlier later j well_formed found listed =

@@ -8,7 +8,7 @@ use Rattle.std.proofs.lemmas.Bool.{cases_eq, cases_lt}
 use Rattle.std.proofs.lemmas.List.{get_or-set_same, get_or-set_other, get_or_past, set-set}
 use Rattle.std.proofs.lemmas.List.{set-get_or, append-nil, append_assoc}
 use Rattle.pending.specs.ChainsView.{chain_in, fronted, joined, lengthened, preceded, shortened}
-use Rattle.pending.specs.inside.Tables.{Holds, after, last_in, times, Leads, IsRing}
+use Rattle.pending.specs.inside.Tables.{HoldChains, after, last_in, times, Leads, IsRing}
 use Rattle.pending.specs.inside.Tables.{IsChain}
 use Rattle.pending.proofs.RingLaws.{ring-parts, ring-turned, sources-none, sources-end, last-counts}
 use Rattle.pending.proofs.RingLaws.{leads-kept, leads-end, same-but-one, same-but-two, chain-kept}
@@ -31,34 +31,34 @@ pub last-there : (lasts : List (Option ℕ)) (chain last : ℕ) → last_in last
 last-there lasts chain last is = grind (arith, cases_lt, get_or_past)
 
 pub ring-at : {next : List ℕ} {lasts : List (Option ℕ)} {loose : List ℕ} {chains : List (List ℕ)}
-    → Holds next lasts loose chains
+    → HoldChains next lasts loose chains
     → (chain last : ℕ) → last_in lasts chain ≡ Some last → IsRing next last (chain_in chains chain)
 ring-at {next} {lasts} {loose} {chains} h chain last is = grind arith
 
 pub none-at : {next : List ℕ} {lasts : List (Option ℕ)} {loose : List ℕ} {chains : List (List ℕ)}
-    → Holds next lasts loose chains
+    → HoldChains next lasts loose chains
     → (chain : ℕ) → last_in lasts chain ≡ None → chain_in chains chain ≡ []
 none-at {next} {lasts} {loose} {chains} h chain is = grind arith
 
 pub few-in : {next : List ℕ} {lasts : List (Option ℕ)} {loose : List ℕ} {chains : List (List ℕ)}
-    → Holds next lasts loose chains
+    → HoldChains next lasts loose chains
     → (chain row : ℕ) → times row loose + times row (chain_in chains chain) ≤ 1
 few-in {next} {lasts} {loose} {chains} h chain row = grind (arith, one-of)
 
 pub few-in-two : {next : List ℕ} {lasts : List (Option ℕ)} {loose : List ℕ} {chains : List (List ℕ)}
-    → Holds next lasts loose chains
+    → HoldChains next lasts loose chains
     → (chain other row : ℕ) → chain ≢ other
     → times row loose + times row (chain_in chains chain) + times row (chain_in chains other) ≤ 1
 few-in-two {next} {lasts} {loose} {chains} h chain other row apart = grind (arith, two-of)
 
 pub is-row : {next : List ℕ} {lasts : List (Option ℕ)} {loose : List ℕ} {chains : List (List ℕ)}
-    → Holds next lasts loose chains
+    → HoldChains next lasts loose chains
     → (chain row : ℕ) → 0 < times row loose + times row (chain_in chains chain) → row < length next
 is-row {next} {lasts} {loose} {chains} h chain row some = grind (arith, cases_lt, one-of)
 
 -- If a chain is replaced, the rows that it loses become loose, and it gains only loose rows.
 pub holds-put : {next : List ℕ} {lasts : List (Option ℕ)} {loose : List ℕ} {chains : List (List ℕ)}
-    → Holds next lasts loose chains
+    → HoldChains next lasts loose chains
     → (new left : List ℕ) (chain : ℕ) (last : Option ℕ) (rows : List ℕ) → chain < length lasts
     → length new ≡ length next
     → IsChain new last rows
@@ -66,7 +66,7 @@ pub holds-put : {next : List ℕ} {lasts : List (Option ℕ)} {loose : List ℕ}
     → ((row : ℕ) → times row left + times row rows
     ≡ times row loose + times row (chain_in chains chain))
     → length left + length rows ≡ length loose + length (chain_in chains chain)
-    → Holds new (set lasts chain last) left (set chains chain rows)
+    → HoldChains new (set lasts chain last) left (set chains chain rows)
 holds-put {next} {lasts} {loose}
     {chains} h new left chain last rows less long here others same count =
     grind (
@@ -82,15 +82,15 @@ holds-put {next} {lasts} {loose}
 
 -- If another row of a chain counts as its last, the chain is turned, and no link is written.
 pub holds-turned : {next : List ℕ} {lasts : List (Option ℕ)} {loose : List ℕ}
-    {chains : List (List ℕ)} → Holds next lasts loose chains
+    {chains : List (List ℕ)} → HoldChains next lasts loose chains
     → (chain : ℕ) (front : List ℕ) (row : ℕ) (back : List ℕ)
     → chain_in chains chain ≡ front ++ row ∷ back
-    → Holds next (set lasts chain (Some row)) loose (set chains chain (back ++ (front ++ row ∷ [])))
+    → HoldChains next (set lasts chain (Some row)) loose (set chains chain (back ++ (front ++ row ∷ [])))
 holds-turned {next} {lasts} {loose} {chains} h chain front row back is =
     by_last (last_in lasts chain) refl
   where
     at : (last : ℕ) → last_in lasts chain ≡ Some last
-        → Holds next (set lasts chain (Some row)) loose
+        → HoldChains next (set lasts chain (Some row)) loose
         (set chains chain (back ++ (front ++ row ∷ [])))
     at last there =
         let ring = ring-at h chain last there in
@@ -116,7 +116,7 @@ holds-turned {next} {lasts} {loose} {chains} h chain front row back is =
         ))
 
     by_last : (last : Option ℕ) → last_in lasts chain ≡ last
-        → Holds next (set lasts chain (Some row)) loose
+        → HoldChains next (set lasts chain (Some row)) loose
         (set chains chain (back ++ (front ++ row ∷ [])))
     by_last (Some last) there = at last there
     by_last None there = absurd (
@@ -124,9 +124,9 @@ holds-turned {next} {lasts} {loose} {chains} h chain front row back is =
         omega (arith, length-append front (row ∷ back)))
 
 pub holds-loosened : {next : List ℕ} {lasts : List (Option ℕ)} {loose : List ℕ}
-    {chains : List (List ℕ)} → Holds next lasts loose chains
+    {chains : List (List ℕ)} → HoldChains next lasts loose chains
     → (chain : ℕ) → chain < length lasts
-    → Holds next (set lasts chain None) (chain_in chains chain ++ loose) (set chains chain [])
+    → HoldChains next (set lasts chain None) (chain_in chains chain ++ loose) (set chains chain [])
 holds-loosened {next} {lasts} {loose} {chains} h chain less =
     holds-put h next (chain_in chains chain ++ loose) chain None [] less refl refl
     (λ other apart. h.each other)
@@ -134,17 +134,17 @@ holds-loosened {next} {lasts} {loose} {chains} h chain less =
     (omega (arith, length-append (chain_in chains chain) loose))
 
 -- The chain `rows` begins with the row to which the last row's link leads; `rest` are the others.
-pub record IsFirst (next : List ℕ) (last : ℕ) (rows rest : List ℕ) : Type 0 where
+pub record IsFirstOfChain (next : List ℕ) (last : ℕ) (rows rest : List ℕ) : Type 0 where
   pub is : rows ≡ after next last ∷ rest
   pub leads : Leads next (after next last) rest last
   pub behind : drop 1 rows ≡ rest
 
 pub first-of : {next : List ℕ} {last : ℕ} {rows : List ℕ} → IsRing next last rows
-    → (rest : List ℕ) × IsFirst next last rows rest
+    → (rest : List ℕ) × IsFirstOfChain next last rows rest
 first-of {next} {last} {rows} ring = grind (arith, ring-parts)
 
 pub first-is-row : {next : List ℕ} {lasts : List (Option ℕ)} {loose : List ℕ}
-    {chains : List (List ℕ)} → Holds next lasts loose chains
+    {chains : List (List ℕ)} → HoldChains next lasts loose chains
     → (chain last : ℕ) → last_in lasts chain ≡ Some last → after next last < length next
 first-is-row {next} {lasts} {loose} {chains} h chain last there =
     let first = first-of (ring-at h chain last there) in
@@ -153,7 +153,7 @@ first-is-row {next} {lasts} {loose} {chains} h chain last there =
     (omega (arith, times-same (after next last) (after next last) first.0 refl))
 
 pub last-is-row : {next : List ℕ} {lasts : List (Option ℕ)} {loose : List ℕ}
-    {chains : List (List ℕ)} → Holds next lasts loose chains
+    {chains : List (List ℕ)} → HoldChains next lasts loose chains
     → (chain last : ℕ) → last_in lasts chain ≡ Some last → last < length next
 last-is-row {next} {lasts} {loose} {chains} h chain last there =
     is-row h chain last
@@ -161,18 +161,18 @@ last-is-row {next} {lasts} {loose} {chains} h chain last there =
     omega arith)
 
 pub noted-is-row : {next : List ℕ} {lasts : List (Option ℕ)} {loose : List ℕ}
-    {chains : List (List ℕ)} → Holds next lasts loose chains
+    {chains : List (List ℕ)} → HoldChains next lasts loose chains
     → (chain : ℕ) (last : Option ℕ) → last_in lasts chain ≡ last
     → IfSome last (λ row. row < length next)
 noted-is-row h chain None there = tt
 noted-is-row h chain (Some last) there = last-is-row h chain last there
 
 pub loose-is-row : {next : List ℕ} {lasts : List (Option ℕ)} {chains : List (List ℕ)}
-    (row : ℕ) (loose : List ℕ) → Holds next lasts (row ∷ loose) chains → row < length next
+    (row : ℕ) (loose : List ℕ) → HoldChains next lasts (row ∷ loose) chains → row < length next
 loose-is-row row loose h = is-row h 0 row (let one = times-same row row loose refl in omega arith)
 
 pub ring-is-row : {next : List ℕ} {lasts : List (Option ℕ)} {chains : List (List ℕ)} (last : ℕ)
-    (rows loose : List ℕ) → Holds next lasts (rows ++ loose) chains → IsRing next last rows
+    (rows loose : List ℕ) → HoldChains next lasts (rows ++ loose) chains → IsRing next last rows
     → last < length next
 ring-is-row {next} last rows loose h ring =
     is-row h 0 last
@@ -180,9 +180,9 @@ ring-is-row {next} last rows loose h ring =
 
 -- One write takes the first row out of a longer chain: the last row's link then skips it.
 pub holds-cut : {next : List ℕ} {lasts : List (Option ℕ)} {loose : List ℕ} {chains : List (List ℕ)}
-    → Holds next lasts loose chains
+    → HoldChains next lasts loose chains
     → (chain last : ℕ) → last_in lasts chain ≡ Some last → after next last ≢ last
-    → Holds (set next last (after next (after next last))) (set lasts chain (Some last))
+    → HoldChains (set next last (after next (after next last))) (set lasts chain (Some last))
     (after next last ∷ loose) (shortened chains chain)
 holds-cut {next} {lasts} {loose} {chains} h chain last there apart =
     let ring = ring-at h chain last there in
@@ -195,8 +195,8 @@ holds-cut {next} {lasts} {loose} {chains} h chain last there apart =
     small : last < length next
     small = last-is-row h chain last there
 
-    by_rest : (rest : List ℕ) → IsFirst next last (chain_in chains chain) rest
-        → Holds (set next last (after next (after next last))) (set lasts chain (Some last))
+    by_rest : (rest : List ℕ) → IsFirstOfChain next last (chain_in chains chain) rest
+        → HoldChains (set next last (after next (after next last))) (set lasts chain (Some last))
         (after next last ∷ loose) (shortened chains chain)
     by_rest [] first = absurd (apart first.leads)
     by_rest (second ∷ rest) first =
@@ -228,16 +228,16 @@ holds-cut {next} {lasts} {loose} {chains} h chain last there apart =
 
 -- If the last row's link leads to itself, it is the only row, and no link is written.
 pub holds-emptied : {next : List ℕ} {lasts : List (Option ℕ)} {loose : List ℕ}
-    {chains : List (List ℕ)} → Holds next lasts loose chains
+    {chains : List (List ℕ)} → HoldChains next lasts loose chains
     → (chain last : ℕ) → last_in lasts chain ≡ Some last → after next last ≡ last
-    → Holds next (set lasts chain None) (after next last ∷ loose) (shortened chains chain)
+    → HoldChains next (set lasts chain None) (after next last ∷ loose) (shortened chains chain)
 holds-emptied {next} {lasts} {loose} {chains} h chain last there same =
     let ring = ring-at h chain last there in
     let first = first-of ring in
     by_rest first.0 first.1
   where
-    by_rest : (rest : List ℕ) → IsFirst next last (chain_in chains chain) rest
-        → Holds next (set lasts chain None) (after next last ∷ loose) (shortened chains chain)
+    by_rest : (rest : List ℕ) → IsFirstOfChain next last (chain_in chains chain) rest
+        → HoldChains next (set lasts chain None) (after next last ∷ loose) (shortened chains chain)
     by_rest [] first =
         holds-put h next (after next last ∷ loose) chain None (drop 1 (chain_in chains chain))
         (last-there lasts chain last there) refl
@@ -258,8 +258,8 @@ holds-emptied {next} {lasts} {loose} {chains} h chain last there same =
 -- Two writes put a loose row before the first row of a chain that has rows.
 pub holds-preceded : {next : List ℕ} {lasts : List (Option ℕ)} {loose : List ℕ}
     {chains : List (List ℕ)} {row : ℕ}
-    → Holds next lasts (row ∷ loose) chains → (chain last : ℕ) → last_in lasts chain ≡ Some last
-    → Holds (set (set next row (after next last)) last row) (set lasts chain (Some last)) loose
+    → HoldChains next lasts (row ∷ loose) chains → (chain last : ℕ) → last_in lasts chain ≡ Some last
+    → HoldChains (set (set next row (after next last)) last row) (set lasts chain (Some last)) loose
     (preceded chains chain row)
 holds-preceded {next} {lasts} {loose} {chains} {row} h chain last there =
     let new = set (set next row (after next last)) last row in
@@ -304,9 +304,9 @@ holds-preceded {next} {lasts} {loose} {chains} {row} h chain last there =
 -- The loose row becomes a ring of one row: its link leads to itself.
 pub holds-begun : {next : List ℕ} {lasts : List (Option ℕ)} {loose : List ℕ}
     {chains : List (List ℕ)} {row : ℕ}
-    → Holds next lasts (row ∷ loose) chains → (chain : ℕ) → chain < length lasts
+    → HoldChains next lasts (row ∷ loose) chains → (chain : ℕ) → chain < length lasts
     → last_in lasts chain ≡ None
-    → Holds (set next row row) (set lasts chain (Some row)) loose (preceded chains chain row)
+    → HoldChains (set next row row) (set lasts chain (Some row)) loose (preceded chains chain row)
 holds-begun {next} {lasts} {loose} {chains} {row} h chain less there =
     let one = times-same row row loose refl in
     let little : row < length next = is-row h chain row (omega arith) in
@@ -329,9 +329,9 @@ holds-begun {next} {lasts} {loose} {chains} {row} h chain less there =
 -- Exchanging two links puts a loose ring before the first row of a chain that has rows.
 pub holds-embraced : {next : List ℕ} {lasts : List (Option ℕ)} {loose : List ℕ}
     {chains : List (List ℕ)} (two : ℕ) (rows : List ℕ)
-    → Holds next lasts (rows ++ loose) chains → IsRing next two rows → (chain one : ℕ)
+    → HoldChains next lasts (rows ++ loose) chains → IsRing next two rows → (chain one : ℕ)
     → last_in lasts chain ≡ Some one
-    → Holds (set (set next one (after next two)) two (after next one))
+    → HoldChains (set (set next one (after next two)) two (after next one))
     (set lasts chain (Some one)) loose
     (set chains chain (rows ++ chain_in chains chain))
 holds-embraced {next} {lasts} {loose} {chains} two rows h moved chain one there =
@@ -391,9 +391,9 @@ holds-embraced {next} {lasts} {loose} {chains} two rows h moved chain one there 
 -- If the chain is empty, it takes over a loose ring without a write to the links.
 pub holds-named : {next : List ℕ} {lasts : List (Option ℕ)} {loose : List ℕ}
     {chains : List (List ℕ)} (two : ℕ) (rows : List ℕ)
-    → Holds next lasts (rows ++ loose) chains → IsRing next two rows → (chain : ℕ)
+    → HoldChains next lasts (rows ++ loose) chains → IsRing next two rows → (chain : ℕ)
     → chain < length lasts → last_in lasts chain ≡ None
-    → Holds next (set lasts chain (Some two)) loose
+    → HoldChains next (set lasts chain (Some two)) loose
     (set chains chain (rows ++ chain_in chains chain))
 holds-named {next} {lasts} {loose} {chains} two rows h moved chain less there =
     let empty = none-at h chain there in
@@ -407,7 +407,7 @@ holds-named {next} {lasts} {loose} {chains} two rows h moved chain less there =
 
 pub holds-at : {next : List ℕ} {loose : List ℕ} (lasts other : List (Option ℕ))
     (chains same : List (List ℕ)) → lasts ≡ other → chains ≡ same
-    → Holds next lasts loose chains → Holds next other loose same
+    → HoldChains next lasts loose chains → HoldChains next other loose same
 holds-at {next} {loose} lasts other chains same e d h = grind arith
 
 pub last-again : (lasts : List (Option ℕ)) (chain : ℕ) (last : Option ℕ)
@@ -416,21 +416,21 @@ last-again lasts chain last is = grind (arith, set-get_or)
 
 -- A chain is put before another in two steps: its rows become loose, and `step` puts them there.
 pub holds-fronted : {next : List ℕ} {lasts : List (Option ℕ)} {loose : List ℕ}
-    {chains : List (List ℕ)} → Holds next lasts loose chains
+    {chains : List (List ℕ)} → HoldChains next lasts loose chains
     → (from onto : ℕ) → from ≢ onto → from < length lasts → (new : List ℕ) (noted : List (Option ℕ))
-    → (Holds next (set lasts from None) (chain_in chains from ++ loose) (set chains from [])
-    → Holds new noted loose (set (set chains from []) onto
+    → (HoldChains next (set lasts from None) (chain_in chains from ++ loose) (set chains from [])
+    → HoldChains new noted loose (set (set chains from []) onto
     (chain_in chains from ++ chain_in (set chains from []) onto)))
-    → Holds new noted loose (fronted chains from onto)
+    → HoldChains new noted loose (fronted chains from onto)
 holds-fronted {next} {lasts} {loose} {chains} h from onto apart less new noted step =
     grind (arith, in-other, holds-at, holds-loosened)
 
 -- A chain that was put before another comes after it if its last row then counts as the last.
 pub holds-joined : {next : List ℕ} {lasts : List (Option ℕ)} {loose : List ℕ}
-    {chains : List (List ℕ)} → Holds next lasts loose chains
+    {chains : List (List ℕ)} → HoldChains next lasts loose chains
     → (from onto last : ℕ) → last_in lasts from ≡ Some last → onto < length lasts
-    → (new : List ℕ) (noted : List (Option ℕ)) → Holds new noted loose (fronted chains from onto)
-    → Holds new (set noted onto (Some last)) loose (joined chains from onto)
+    → (new : List ℕ) (noted : List (Option ℕ)) → HoldChains new noted loose (fronted chains from onto)
+    → HoldChains new (set noted onto (Some last)) loose (joined chains from onto)
 holds-joined {next} {lasts} {loose} {chains} h from onto last there less new noted then =
     let rest = (first-of (ring-at h from last there)).0 in
     let first = (first-of (ring-at h from last there)).1 in
@@ -453,8 +453,8 @@ holds-joined {next} {lasts} {loose} {chains} h from onto last there less new not
 -- As `holds-joined`, for one row.
 pub holds-lengthened : (new : List ℕ) (noted : List (Option ℕ)) (loose : List ℕ)
     (chains : List (List ℕ)) (chain row : ℕ) → chain < length chains
-    → Holds new noted loose (preceded chains chain row)
-    → Holds new (set noted chain (Some row)) loose (lengthened chains chain row)
+    → HoldChains new noted loose (preceded chains chain row)
+    → HoldChains new (set noted chain (Some row)) loose (lengthened chains chain row)
 holds-lengthened new noted loose chains chain row less h =
     holds-at (set noted chain (Some row)) (set noted chain (Some row))
     (set (preceded chains chain row) chain (chain_in chains chain ++ row ∷ []))
@@ -465,7 +465,7 @@ holds-lengthened new noted loose chains chain row less h =
 
 pub holds-same : {lasts : List (Option ℕ)} {loose : List ℕ} {chains : List (List ℕ)}
     (next new : List ℕ) (noted : List (Option ℕ)) → new ≡ next → noted ≡ lasts
-    → Holds next lasts loose chains → Holds new noted loose chains
+    → HoldChains next lasts loose chains → HoldChains new noted loose chains
 holds-same {lasts} {loose} {chains} next new noted e d h = grind arith
 
 pub ring-same : (next new : List ℕ) (last : ℕ) (rows : List ℕ) → new ≡ next → IsRing next last rows
@@ -473,8 +473,8 @@ pub ring-same : (next new : List ℕ) (last : ℕ) (rows : List ℕ) → new ≡
 ring-same next new last rows e ring = grind arith
 
 pub holds-grown : {next : List ℕ} {lasts : List (Option ℕ)} {chains : List (List ℕ)}
-    → Holds next lasts [] chains
-    → Holds (next ++ 0 ∷ []) lasts (length next ∷ []) chains
+    → HoldChains next lasts [] chains
+    → HoldChains (next ++ 0 ∷ []) lasts (length next ∷ []) chains
 holds-grown {next} {lasts} {chains} h =
     let same : SameBut next (next ++ 0 ∷ []) (length next) (length next) =
     record { at = λ row _ _. after-grown next row } in
@@ -506,7 +506,7 @@ holds-grown {next} {lasts} {chains} h =
     }
 
 pub holds-more : {next : List ℕ} {lasts : List (Option ℕ)} {loose : List ℕ} {chains : List (List ℕ)}
-    → Holds next lasts loose chains
-    → Holds next (lasts ++ None ∷ []) loose (chains ++ [] ∷ [])
+    → HoldChains next lasts loose chains
+    → HoldChains next (lasts ++ None ∷ []) loose (chains ++ [] ∷ [])
 holds-more {next} {lasts} {loose} {chains} h =
     grind (arith, length-append, default-grown, sum_by_push)

@@ -8,7 +8,7 @@ use Rattle.pending.specs.ChainsView.{chain_in, fronted, joined, lengthened, lift
 use Rattle.pending.specs.ChainsView.{shortened, turned}
 use Rattle.pending.specs.declared.chains.links.Links.{Links}
 use Rattle.pending.specs.declared.chains.walk.Walk.{Walk}
-use Rattle.pending.specs.inside.Tables.{AreMarks, IsMarked, IsTable, IsWalk, is_marked}
+use Rattle.pending.specs.inside.Tables.{AreMarks, IsMarked, IsTable, WalksChain, is_marked}
 use Rattle.pending.specs.inside.Tables.{last_in, seen_chains, seen_lasts, times, walked_in}
 use Rattle.pending.proofs.CallLaws.{sound-same}
 use Rattle.pending.proofs.HoldsLaws.{default-grown, last-again}
@@ -29,7 +29,7 @@ marks-kept {marks} {chains} {other} known more = record {
   within = λ row marked. let some = known.within row marked in let kept = more row in omega arith;
 }
 
--- The row is marked before the mark of another row is removed.
+-- A row still marked after `row`'s mark is removed is another row, and was marked before.
 pub mark-left : (marks : List Bool) (row r : ℕ) → is_marked (set marks row false) r ≡ true
     → (r ≢ row) × (is_marked marks r ≡ true)
 mark-left marks row r marked = elim (cases_eq r row) [
@@ -132,7 +132,7 @@ module _ {T : Type 0} where
   pub marked-of : (links : Links) (rows : List (Option T)) (walk : Option Walk)
       (chains : List (List ℕ)) {marks : List Bool}
       → IsTable links.next.items (seen_lasts links.lasts.items walk) rows chains
-      → IsWalk links.lasts.items walk → AreMarks marks chains
+      → WalksChain links.lasts.items walk → AreMarks marks chains
       → IsMarked links rows walk marks
   marked-of links rows walk chains {marks} t walks known = record {
     sound = sound-of links rows walk chains t walks;

@@ -9,7 +9,7 @@ use Rattle.std.proofs.lemmas.List.{append_cancel_right, get_or-set_same, map-set
 use Rattle.pending.specs.ChainsView.{TakesOut, chain_in, lengthened, shortened}
 use Rattle.pending.specs.declared.chains.links.Links.{Links}
 use Rattle.pending.specs.declared.chains.walk.Walk.{Walk}
-use Rattle.pending.specs.inside.Tables.{Changes, Holds, IsIn, IsLast, IsLoose, IsMarked, IsRing}
+use Rattle.pending.specs.inside.Tables.{Changes, HoldChains, IsIn, IsLastOfChain, IsLoose, IsMarked, IsRing}
 use Rattle.pending.specs.inside.Tables.{IsSound, IsTable, after, is_marked, last_in, seen_chains}
 use Rattle.pending.specs.inside.Tables.{seen_lasts, times, value_at, values_of, walked_in}
 use Rattle.pending.proofs.BackLaws.{around, back-rows, before-there}
@@ -54,9 +54,9 @@ in-chain {next} {lasts} {chain} {row} i = by_last (last_in lasts chain) refl
 
 -- The row counts as the last row of its chain.
 row-last : {next : List ℕ} {lasts : List (Option ℕ)} {chains : List (List ℕ)}
-    → Holds next lasts [] chains → (chain row : ℕ) (front back : List ℕ) → chain < length lasts
+    → HoldChains next lasts [] chains → (chain row : ℕ) (front back : List ℕ) → chain < length lasts
     → chain_in chains chain ≡ front ++ row ∷ back
-    → Holds next (set lasts chain (Some row)) [] (set chains chain (back ++ (front ++ row ∷ [])))
+    → HoldChains next (set lasts chain (Some row)) [] (set chains chain (back ++ (front ++ row ∷ [])))
     × (last_in (set lasts chain (Some row)) chain ≡ Some row)
 row-last {next} {lasts} {chains} h chain row front back less is =
     (holds-turned h chain front row back is, get_or-set_same lasts chain (Some row) None less)
@@ -71,10 +71,10 @@ row-before {next} {lasts} {chain} {row} i =
 
 -- If the row `before`, whose link leads to `row`, counts as the last, then `row` is the first.
 row-first : {next : List ℕ} {lasts : List (Option ℕ)} {chains : List (List ℕ)}
-    → Holds next lasts [] chains → (chain row before : ℕ) (front back : List ℕ)
+    → HoldChains next lasts [] chains → (chain row before : ℕ) (front back : List ℕ)
     → chain < length lasts → chain_in chains chain ≡ front ++ row ∷ back
     → before < length next → after next before ≡ row
-    → Holds next (set lasts chain (Some before)) [] (set chains chain (row ∷ (back ++ front)))
+    → HoldChains next (set lasts chain (Some before)) [] (set chains chain (row ∷ (back ++ front)))
 row-first {next} {lasts} {chains} h chain row before front back less is small leads =
     let turned = back ++ (front ++ row ∷ []) in
     let last = row-last h chain row front back less is in
@@ -87,20 +87,20 @@ row-first {next} {lasts} {chains} h chain row before front back less is small le
     (set-set chains chain turned new.0) new.2)
   where
     by_new : (new : List ℕ) → drop 1 new ++ take 1 new ≡ back ++ (front ++ row ∷ [])
-        → Holds next (set lasts chain (Some before)) [] (set chains chain new)
-        → Holds next (set lasts chain (Some before)) [] (set chains chain (row ∷ (back ++ front)))
+        → HoldChains next (set lasts chain (Some before)) [] (set chains chain new)
+        → HoldChains next (set lasts chain (Some before)) [] (set chains chain (row ∷ (back ++ front)))
     by_new [] e holds = absurd (
         let long = ap length e in
         omega (arith, length-append back (front ++ row ∷ []), length-append front (row ∷ [])))
     by_new (n ∷ ns) e holds =
         let same = snoc-same ns (back ++ front) n row (e ∙ sym (append_assoc back front (row ∷ []))) in
         let P : List ℕ → Type 0 =
-        λ rows. Holds next (set lasts chain (Some before)) [] (set chains chain rows) in
+        λ rows. HoldChains next (set lasts chain (Some before)) [] (set chains chain rows) in
         subst P (grind (arith, same.1, same.0)) holds
 
 pub row-is-last : {next : List ℕ} {lasts : List (Option ℕ)} {chain row : ℕ}
     (i : IsIn next lasts chain row) (before : ℕ) → before < length next → after next before ≡ row
-    → IsLast next before
+    → IsLastOfChain next before
 row-is-last {next} {lasts} {chain} {row} i before small leads =
     let parts = around row (chain_in i.chains chain) i.some in
     let less = (in-chain i).0 in
@@ -115,20 +115,20 @@ row-is-last {next} {lasts} {chain} {row} i before small leads =
 
 -- The row was cut out; `left` counts as the last row of the chain.
 row-cut : {next : List ℕ} {lasts : List (Option ℕ)} {chains : List (List ℕ)}
-    → Holds next lasts [] chains → (new : List ℕ) (chain row before : ℕ) (left : Option ℕ)
+    → HoldChains next lasts [] chains → (new : List ℕ) (chain row before : ℕ) (left : Option ℕ)
     (front back : List ℕ) → chain < length lasts → chain_in chains chain ≡ front ++ row ∷ back
     → before < length next → after next before ≡ row
     → ((noted : List (Option ℕ)) (loose : List ℕ) (rings : List (List ℕ)) (at : ℕ)
-    → Holds next noted loose rings → last_in noted at ≡ Some before
-    → Holds new (set noted at left) (after next before ∷ loose) (shortened rings at))
-    → Holds new (set lasts chain left) (row ∷ []) (set chains chain (back ++ front))
+    → HoldChains next noted loose rings → last_in noted at ≡ Some before
+    → HoldChains new (set noted at left) (after next before ∷ loose) (shortened rings at))
+    → HoldChains new (set lasts chain left) (row ∷ []) (set chains chain (back ++ front))
 row-cut {next} {lasts} {chains} h new chain row before left front back less is small leads cut =
     let first = row-first h chain row before front back less is small leads in
     let rows = row ∷ (back ++ front) in
     let seen = set chains chain rows in
     let within : chain < length chains = let e = h.size in omega arith in
     let P : ℕ → Type 0 =
-    λ r. Holds new (set lasts chain left) (r ∷ []) (set chains chain (back ++ front)) in
+    λ r. HoldChains new (set lasts chain left) (r ∷ []) (set chains chain (back ++ front)) in
     subst P leads (holds-at (set (set lasts chain (Some before)) chain left) (set lasts chain left)
     (shortened seen chain) (set chains chain (back ++ front))
     (set-set lasts chain (Some before) left)
@@ -145,22 +145,22 @@ ring-end next last (row ∷ rows) ring = leads-end next last row rows last ring.
 
 -- The row is the last one.
 pub last-taken : {next : List ℕ} {lasts : List (Option ℕ)} {chains : List (List ℕ)}
-    → Holds next lasts [] chains → (new : List ℕ) (chain row before : ℕ) (left : Option ℕ)
+    → HoldChains next lasts [] chains → (new : List ℕ) (chain row before : ℕ) (left : Option ℕ)
     (front back : List ℕ) → last_in lasts chain ≡ Some row → chain < length lasts
     → chain_in chains chain ≡ front ++ row ∷ back
     → before < length next → after next before ≡ row
     → ((noted : List (Option ℕ)) (loose : List ℕ) (rings : List (List ℕ)) (at : ℕ)
-    → Holds next noted loose rings → last_in noted at ≡ Some before
-    → Holds new (set noted at left) (after next before ∷ loose) (shortened rings at))
-    → Holds new (set lasts chain left) (row ∷ []) (set chains chain (front ++ back))
+    → HoldChains next noted loose rings → last_in noted at ≡ Some before
+    → HoldChains new (set noted at left) (after next before ∷ loose) (shortened rings at))
+    → HoldChains new (set lasts chain left) (row ∷ []) (set chains chain (front ++ back))
 last-taken {next} {lasts} {chains} h new chain row before left front back noted less is small leads
     cut = by_back back is
   where
     by_back : (bs : List ℕ) → chain_in chains chain ≡ front ++ row ∷ bs
-        → Holds new (set lasts chain left) (row ∷ []) (set chains chain (front ++ bs))
+        → HoldChains new (set lasts chain left) (row ∷ []) (set chains chain (front ++ bs))
     by_back [] at =
         let P : List ℕ → Type 0 =
-        λ rs. Holds new (set lasts chain left) (row ∷ []) (set chains chain rs) in
+        λ rs. HoldChains new (set lasts chain left) (row ∷ []) (set chains chain rs) in
         subst P (sym (append-nil front))
         (row-cut h new chain row before left front [] less at small leads cut)
     by_back (b ∷ bs) at = absurd (
@@ -182,14 +182,14 @@ last-taken {next} {lasts} {chains} h new chain row before left front back noted 
 
 -- The row isn't the last one, which stays the last.
 pub middle-taken : {next : List ℕ} {lasts : List (Option ℕ)} {chains : List (List ℕ)}
-    → Holds next lasts [] chains → (new : List ℕ) (chain row before last : ℕ) (left : Option ℕ)
+    → HoldChains next lasts [] chains → (new : List ℕ) (chain row before last : ℕ) (left : Option ℕ)
     (front back : List ℕ) → last_in lasts chain ≡ Some last → last ≢ row → chain < length lasts
     → chain_in chains chain ≡ front ++ row ∷ back
     → before < length next → after next before ≡ row
     → ((noted : List (Option ℕ)) (loose : List ℕ) (rings : List (List ℕ)) (at : ℕ)
-    → Holds next noted loose rings → last_in noted at ≡ Some before
-    → Holds new (set noted at left) (after next before ∷ loose) (shortened rings at))
-    → Holds new lasts (row ∷ []) (set chains chain (front ++ back))
+    → HoldChains next noted loose rings → last_in noted at ≡ Some before
+    → HoldChains new (set noted at left) (after next before ∷ loose) (shortened rings at))
+    → HoldChains new lasts (row ∷ []) (set chains chain (front ++ back))
 middle-taken {next} {lasts} {chains} h new chain row before last left front back noted apart less is
     small leads cut = by_back back is
   where
@@ -197,7 +197,7 @@ middle-taken {next} {lasts} {chains} h new chain row before last left front back
     end = ring-end next last (chain_in chains chain) (ring-at h chain last noted)
 
     by_back : (bs : List ℕ) → chain_in chains chain ≡ front ++ row ∷ bs
-        → Holds new lasts (row ∷ []) (set chains chain (front ++ bs))
+        → HoldChains new lasts (row ∷ []) (set chains chain (front ++ bs))
     by_back [] at = absurd (apart (sym (snoc-last front end.0 row last (sym at ∙ end.1))))
     by_back (b ∷ bs) at =
         let parts = unsnoc b bs in
@@ -259,12 +259,12 @@ module _ {T : Type 0} where
       → 1 < onto → chain_in (seen_chains links walk) 1 ≡ front ++ row ∷ back
       → Changes links mid 2 → Changes mid new 3
       → ((chains : List (List ℕ)) (before behind : List ℕ)
-      → Holds links.next.items links.lasts.items [] chains
+      → HoldChains links.next.items links.lasts.items [] chains
       → chain_in chains 1 ≡ before ++ row ∷ behind
-      → Holds mid.next.items mid.lasts.items (row ∷ []) (set chains 1 (before ++ behind)))
+      → HoldChains mid.next.items mid.lasts.items (row ∷ []) (set chains 1 (before ++ behind)))
       → ((loose : List ℕ) (chains : List (List ℕ))
-      → Holds mid.next.items mid.lasts.items (row ∷ loose) chains
-      → Holds new.next.items new.lasts.items loose (lengthened chains onto row))
+      → HoldChains mid.next.items mid.lasts.items (row ∷ loose) chains
+      → HoldChains new.next.items new.lasts.items loose (lengthened chains onto row))
       → IsTable new.next.items (seen_lasts new.lasts.items walk) rows
       (passed (seen_chains links walk) (front ++ back) onto row)
   passed-table {links} {mid} {new} {rows} {walk} s rest row onto front back apart is first second
@@ -281,9 +281,9 @@ module _ {T : Type 0} where
       → chain_in (seen_chains links walk) 1 ≡ front ++ row ∷ back
       → Changes links mid 2
       → ((chains : List (List ℕ)) (before behind : List ℕ)
-      → Holds links.next.items links.lasts.items [] chains
+      → HoldChains links.next.items links.lasts.items [] chains
       → chain_in chains 1 ≡ before ++ row ∷ behind
-      → Holds mid.next.items mid.lasts.items (row ∷ []) (set chains 1 (before ++ behind)))
+      → HoldChains mid.next.items mid.lasts.items (row ∷ []) (set chains 1 (before ++ behind)))
       → onto < length (map (values_of rows) (seen_chains links walk))
       → IsLoose mid.next.items mid.lasts.items onto row
   passed-loose {links} {mid} {rows} {walk} s rest row onto front back is changes take_out within =

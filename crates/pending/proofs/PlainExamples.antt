@@ -13,10 +13,10 @@ use Rattle.bio.specs.Content.{Content, over, sector_of}
 use Rattle.log_format.specs.Encode.{field_bytes, super_bytes}
 use Rattle.log_format.specs.Replay.{replay}
 use Rattle.pending.specs.CompletionList.{entries_at}
-use Rattle.pending.specs.Plain.{AClose, AMark, AtClose, AtEnd, AtFlush, AtFua, Belongs, Chain}
-use Rattle.pending.specs.Plain.{CouldHold, Covers, Direct, Durable, Ends, Flushed, GoesOn, HasLog}
-use Rattle.pending.specs.Plain.{IsCompletionList, Kept, Later, LeavesPlainLog, Need, Overlap, Puts}
-use Rattle.pending.specs.Plain.{Queued, Queues, Replays, Submits, Through, bytes_of, entries_bytes}
+use Rattle.pending.specs.Plain.{AClose, AMark, AtClose, AtEnd, AtFlush, AtFua, Belongs, PlainChain}
+use Rattle.pending.specs.Plain.{CouldHold, Covers, Direct, Durable, Ends, Flushed, GoesOn, HasPlainLog}
+use Rattle.pending.specs.Plain.{IsCompletionList, KeepsValueOf, Later, LeavesPlainLog, Need, Overlap, Puts}
+use Rattle.pending.specs.Plain.{Queued, Queues, ReplaysTo, Submits, Through, entry_bytes_of, entries_bytes}
 use Rattle.pending.specs.Plain.{entry}
 use Rattle.pending.proofs.PlainHeld.{plain-durable, plain-kept, plain-replay, replay-plain}
 use Rattle.pending.proofs.PlainMoments.{belongs-plain, last-plain, list-is, plain-list}
@@ -135,13 +135,13 @@ durable-failed : Durable failed 0 → ⊥
 durable-failed it = let is : false ≡ true = plain-durable failed 0 refl it in cc
 
 -- Kept: a durable request puts nothing in sectors that it doesn't cover
-kept : Kept flushed 5 0
+kept : KeepsValueOf flushed 5 0
 kept = (durable, plain_write, refl, covers)
 
-kept-fua : Kept linked 5 2
+kept-fua : KeepsValueOf linked 5 2
 kept-fua = (durable-fua, fua_write, refl, covers-fua)
 
-kept-beyond : Kept flushed 6 0 → ⊥
+kept-beyond : KeepsValueOf flushed 6 0 → ⊥
 kept-beyond it = let is : false ≡ true = plain-kept flushed 6 0 refl it in cc
 
 -- CouldHold: a write that isn't durable can be lost
@@ -191,13 +191,13 @@ could-replaced it = elim (it 5) [
 ]
 
 -- Chain: requests of neighbouring sectors make no chain
-chain : Chain linked fua_write 3 1 plain_write
+chain : PlainChain linked fua_write 3 1 plain_write
 chain = Direct 1 plain_write overlap
 
 linked-between : (id later : ℕ) (ok : Bool) → Ends linked id later ok → 1 < later → later < 3 → ⊥
 linked-between id later ok is from to = grind arith
 
-chain-apart : Chain linked fua_write 3 1 next_write → ⊥
+chain-apart : PlainChain linked fua_write 3 1 next_write → ⊥
 chain-apart (Direct _ _ meets) = overlap-neighbour meets
 chain-apart (Through _ _ id later ok next is plain ended from to meets rest) =
     linked-between id later ok ended from to
@@ -263,7 +263,7 @@ belongs-many it =
 
 -- bytes_of: the sector is counted in log sectors, and not in sectors of 512 bytes
 abbrev large : List ℕ
-large = bytes_of 1024 (Some (Submit (Write 6 (replicate 1024 65) false false false)))
+large = entry_bytes_of 1024 (Some (Submit (Write 6 (replicate 1024 65) false false false)))
 
 bytes : take 8 large ≡ 3 ∷ replicate 7 0
 bytes = refl
@@ -292,7 +292,7 @@ log_disk count zero =
     ++ little_bytes 4 512 ++ replicate 484 0
 log_disk count (suc sector) = sector_of (entries_bytes 512 flushed (0 ∷ 2 ∷ [])) sector
 
-has_log : HasLog 512 flushed (0 ∷ 2 ∷ []) 4 (log_disk 2)
+has_log : HasPlainLog 512 flushed (0 ∷ 2 ∷ []) 4 (log_disk 2)
 unfolding log_disk
 has_log =
     record {
@@ -302,7 +302,7 @@ has_log =
       within = omega arith;
     }
 
-has_log-more : HasLog 512 flushed (0 ∷ 2 ∷ []) 4 (log_disk 3) → ⊥
+has_log-more : HasPlainLog 512 flushed (0 ∷ 2 ∷ []) 4 (log_disk 3) → ⊥
 unfolding log_disk
 has_log-more log = grind (arith, at-place, log_disk)
 
@@ -310,14 +310,14 @@ has_log-more log = grind (arith, at-place, log_disk)
 abbrev replayed : Content
 replayed = replay 512 (entries_at 512 linked (0 ∷ 2 ∷ [])) zeroes
 
-replays : Replays linked (0 ∷ 2 ∷ []) zeroes replayed
+replays : ReplaysTo linked (0 ∷ 2 ∷ []) zeroes replayed
 replays = replay-plain 512 linked (0 ∷ 2 ∷ []) zeroes replayed refl refl (λ sector. refl)
 
 replays-last : replayed 5 ≡ full 66
 unfolding over
 replays-last = refl
 
-replays-first : Replays linked (0 ∷ 2 ∷ []) zeroes (λ sector. full 65) → ⊥
+replays-first : ReplaysTo linked (0 ∷ 2 ∷ []) zeroes (λ sector. full 65) → ⊥
 replays-first it =
     let now = plain-replay 512 linked (0 ∷ 2 ∷ []) zeroes (λ sector. full 65) refl refl it 5 in
     let byte = same-byte 65 66 (now ∙ replays-last) in omega arith
@@ -336,7 +336,7 @@ none_queued id end place (Later _ _ bio ok is ends kind after need first) = cc
 none_listed : IsCompletionList [] []
 none_listed = grind (arith, none_queued)
 
-nothing_held : (first after : Content) → Replays [] [] first after → CouldHold [] first after
+nothing_held : (first after : Content) → ReplaysTo [] [] first after → CouldHold [] first after
 nothing_held first after replays sector = grind arith
 
 empty_left : (size : ℕ) → 0 < size → LeavesPlainLog 512 size 0 [] empty_log

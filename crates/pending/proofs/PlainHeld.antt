@@ -1,4 +1,5 @@
--- The plain `CouldHold`, `Durable`, `Kept` and `Replays` agree with the contracts' definitions.
+-- The plain `CouldHold`, `Durable`, `KeepsValueOf` and `ReplaysTo` agree with the contracts'
+-- definitions.
 use Rattle.std.proofs.Common.{take, Option, Some, None, List, [], ◌∷◌, length, refl, ap, sym, ◌∙◌}
 use Rattle.std.proofs.Common.{inl, inr, arith, ◌≡◌, ℕ, zero, suc, ◌+◌, ◌-◌, ◌<◌, ◌≤◌, Bool, true}
 use Rattle.std.proofs.Common.{false, ◌&&◌, ◌||◌}
@@ -27,7 +28,7 @@ use Rattle.pending.proofs.Order.{ends-there, flush_submit-some, listed_queued}
 use Rattle.pending.proofs.Possibles.{aligned-at, entry-values, entry_values, last-value}
 use Rattle.pending.specs.CompletionList.{Item, completion_list, dm_log_writes, entries_at}
 use Rattle.pending.specs.CompletionList.{entries_of, entry_at, ids_of}
-use Rattle.pending.specs.Plain.{CouldHold, Covers, Durable, Ends, Flushed, Kept, Puts, Replays}
+use Rattle.pending.specs.Plain.{CouldHold, Covers, Durable, Ends, Flushed, KeepsValueOf, Puts, ReplaysTo}
 use Rattle.pending.specs.Plain.{Submits}
 
 pub and_holds : (a b : Bool) → a ≡ true → b ≡ true → (a && b) ≡ true
@@ -152,16 +153,16 @@ plain-durable events id well_formed durable =
     ])
 
 pub kept-plain : (events : List CoreEvent) (sector id : ℕ) → is_well_formed events ≡ true
-    → is_kept events sector id ≡ true → Kept events sector id
+    → is_kept events sector id ≡ true → KeepsValueOf events sector id
 kept-plain events sector id well_formed kept =
     grind (arith, and_parts, covered_value, event-puts, durable-plain)
 
 pub plain-kept : (events : List CoreEvent) (sector id : ℕ) → is_well_formed events ≡ true
-    → Kept events sector id → is_kept events sector id ≡ true
+    → KeepsValueOf events sector id → is_kept events sector id ≡ true
 plain-kept events sector id well_formed kept =
     grind (arith, and_holds, plain-durable, value_covers, puts-event)
 
-kept-within : (events : List CoreEvent) (sector id : ℕ) → Kept events sector id → id < length events
+kept-within : (events : List CoreEvent) (sector id : ℕ) → KeepsValueOf events sector id → id < length events
 kept-within events sector id kept = slice_get-within events id (Submit kept.1) kept.2
 
 pub possible-plain : (events : List CoreEvent) (first now : Content)
@@ -221,7 +222,7 @@ plain-possible events first now well_formed could = λ sector. elim (could secto
   )
 ]
 
--- What `Replays` says about one sector, whose value was `first` before the replay.
+-- What `ReplaysTo` says about one sector, whose value was `first` before the replay.
 abbrev SectorAfter : List CoreEvent → List ℕ → ℕ → List ℕ → List ℕ → Type 0
 SectorAfter events ids sector first after =
     ((after ≡ first)
@@ -308,12 +309,12 @@ sector-after size events ids first sector right aligned =
 pub replay-plain : (size : ℕ) (events : List CoreEvent) (ids : List ℕ) (first after : Content)
     → is_sector_size size ≡ true → all_aligned size events ≡ true
     → ((sector : ℕ) → after sector ≡ replay size (entries_at size events ids) first sector)
-    → Replays events ids first after
+    → ReplaysTo events ids first after
 replay-plain size events ids first after right aligned same = grind (arith, sector-after)
 
 pub plain-replay : (size : ℕ) (events : List CoreEvent) (ids : List ℕ) (first after : Content)
     → is_sector_size size ≡ true → all_aligned size events ≡ true
-    → Replays events ids first after
+    → ReplaysTo events ids first after
     → (sector : ℕ) → after sector ≡ replay size (entries_at size events ids) first sector
 plain-replay size events ids first after right aligned replays sector =
     one-value events ids sector (first sector) (after sector)

@@ -18,7 +18,7 @@ use Rattle.pending.specs.QueueEvent as old
 use Rattle.pending.specs.QueueEvent.{first_need, log_writes_order, queue_of, unless_stopped}
 use Rattle.pending.specs.CompletionList.{IsQueued, IsQueuedBefore, Item, completion_list}
 use Rattle.pending.specs.CompletionList.{dm_log_writes, entry_at, ids_of, own_end}
-use Rattle.pending.specs.Plain.{AClose, AMark, AtClose, AtEnd, AtFlush, AtFua, Chain, Covers}
+use Rattle.pending.specs.Plain.{AClose, AMark, AtClose, AtEnd, AtFlush, AtFua, PlainChain, Covers}
 use Rattle.pending.specs.Plain.{Direct, GoesOn, IsCompletionList, Later, Need, Overlap, Queued}
 use Rattle.pending.specs.Plain.{Queues, Submits, Through}
 use Rattle.pending.proofs.Order.{ends-there, listed_queued, listed_sorted, own_queue_event}
@@ -45,7 +45,7 @@ not_true true e = cc
 not_true false e = refl
 
 chain-plain : (events : List CoreEvent) (last : Bio) (place end : ℕ) (bio : Bio)
-    → old.Chain events last place end bio → Chain events last place end bio
+    → old.Chain events last place end bio → PlainChain events last place end bio
 chain-plain events last place end bio (old.Direct _ _ overlap) =
     Direct end bio (overlap-plain bio last overlap)
 chain-plain events last place end bio (old.Through _ _ later id next ended rises within meets rest) =
@@ -55,7 +55,7 @@ chain-plain events last place end bio (old.Through _ _ later id next ended rises
 
 plain-chain : (events : List CoreEvent) (last : Bio) (place end : ℕ) (bio : Bio)
     → is_well_formed events ≡ true
-    → Chain events last place end bio → old.Chain events last place end bio
+    → PlainChain events last place end bio → old.Chain events last place end bio
 plain-chain events last place end bio well_formed (Direct _ _ overlap) =
     old.Direct end bio (plain-overlap bio last overlap)
 plain-chain events last place end bio well_formed

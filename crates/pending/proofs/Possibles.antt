@@ -24,7 +24,7 @@ use Rattle.log_format.specs.AlignmentLaws.{entries_keep_values}
 use Rattle.log_format.specs.declared.entry.Entry.{Entry}
 use Rattle.log_format.specs.Entries.{is_sector_size, kind_of}
 use Rattle.log_format.specs.Replay.{kind_values, replay}
-use Rattle.pending.proofs.Durable.{IsDurableBefore, IsFound, IsMoment, durable-queued, found-first}
+use Rattle.pending.proofs.Durable.{IsDurableBefore, FindsEarlier, IsMoment, durable-queued, found-first}
 use Rattle.pending.proofs.Durable.{queued-longer, queued-shorter}
 use Rattle.pending.proofs.MarkPlaces.{found-longer, well_formed-beginning}
 use Rattle.pending.proofs.Order.{ends-there, flush_submit-some, listed_queued, open_queue_event}
@@ -382,7 +382,7 @@ last-unreplaced size events moment count sector id place now entry sized safe be
           let durable = durable-of events moment sector later safe.within found.1 parts.0 in
           let before = (is_before-end front id later).0 parts.1 in
           let second = durable.there.bio in
-          let both : IsFound events id later = record {
+          let both : FindsEarlier events id later = record {
             first = bio;
             second = second;
             first_is = submitted;

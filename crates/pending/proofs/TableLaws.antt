@@ -14,7 +14,7 @@ use Rattle.pending.specs.ChainsView.{KeepsRoom, chain_in, lengthened, preceded, 
 use Rattle.pending.specs.declared.chains.links.Links.{Links}
 use Rattle.pending.specs.declared.chains.walk.Walk.{Walk}
 use Rattle.pending.specs.inside.Tables.{filled, value_at, values_of, IsOpen, Changes, walked_in}
-use Rattle.pending.specs.inside.Tables.{IsSound, Holds, IsTable, IsWalk, after, last_in, times}
+use Rattle.pending.specs.inside.Tables.{IsSound, HoldChains, IsTable, WalksChain, after, last_in, times}
 use Rattle.pending.specs.inside.Tables.{seen_chains, seen_lasts, shown_of, Leads, IsRing, IsChain}
 use Rattle.pending.specs.inside.Tables.{chain_of, chains_of, rows_from}
 
@@ -51,7 +51,7 @@ chain-found next last rows chain few long = grind (arith, ring-found)
 
 -- The links determine the chains that they hold.
 pub chains-found : {next : List ℕ} {lasts : List (Option ℕ)} {loose : List ℕ}
-    {chains : List (List ℕ)} → Holds next lasts loose chains
+    {chains : List (List ℕ)} → HoldChains next lasts loose chains
     → chains ≡ chains_of next lasts
 chains-found {next} {lasts} {loose} {chains} h =
     ext_get_or [] chains (chains_of next lasts) (h.size ∙ sym (length-map lasts (chain_of next)))
@@ -64,7 +64,7 @@ chains-found {next} {lasts} {loose} {chains} h =
     ∙ sym (get_or-map (chain_of next) lasts i None [] small))
 
 pub walk-rest : (lasts : List (Option ℕ)) (walk : Option Walk) → walked_in walk ≡ None
-    → IsWalk lasts walk
+    → WalksChain lasts walk
 walk-rest lasts walk rest = grind arith
 
 -- Chain 0 has the free rows.
@@ -72,12 +72,12 @@ pub in-neither : (chains : List (List ℕ)) (from onto : ℕ) (left all : List �
     → chain_in (set (set chains from left) onto all) 0 ≡ chain_in chains 0
 in-neither chains from onto left all some more = grind (arith, in-other)
 
-pub seen-grown : (lasts : List (Option ℕ)) (walk : Option Walk) → IsWalk lasts walk
+pub seen-grown : (lasts : List (Option ℕ)) (walk : Option Walk) → WalksChain lasts walk
     → seen_lasts (lasts ++ None ∷ []) walk ≡ seen_lasts lasts walk ++ None ∷ []
 seen-grown lasts walk walks = grind (arith, set-append_left)
 
-pub walk-grown : (lasts : List (Option ℕ)) (walk : Option Walk) → IsWalk lasts walk
-    → IsWalk (lasts ++ None ∷ []) walk
+pub walk-grown : (lasts : List (Option ℕ)) (walk : Option Walk) → WalksChain lasts walk
+    → WalksChain (lasts ++ None ∷ []) walk
 walk-grown lasts walk walks = grind (arith, length-append)
 
 module _ {T : Type 0} where
@@ -100,7 +100,7 @@ module _ {T : Type 0} where
   pub sound-of : (links : Links) (rows : List (Option T)) (walk : Option Walk)
       (chains : List (List ℕ))
       → IsTable links.next.items (seen_lasts links.lasts.items walk) rows chains
-      → IsWalk links.lasts.items walk → IsSound links rows walk
+      → WalksChain links.lasts.items walk → IsSound links rows walk
   sound-of links rows walk chains t walks = record {
     table = grind (arith, chains-found t.holds);
     walks = walks;
@@ -115,7 +115,7 @@ module _ {T : Type 0} where
   -- If no value is written and the free rows stay the same, a change of links keeps the table.
   pub table-kept : {next : List ℕ} {lasts : List (Option ℕ)} {rows : List (Option T)}
       {chains : List (List ℕ)} → IsTable next lasts rows chains
-      → (new : List ℕ) (noted : List (Option ℕ)) (other : List (List ℕ)) → Holds new noted [] other
+      → (new : List ℕ) (noted : List (Option ℕ)) (other : List (List ℕ)) → HoldChains new noted [] other
       → length new ≡ length next
       → length noted ≡ length lasts → chain_in other 0 ≡ chain_in chains 0
       → IsTable new noted rows other
@@ -130,8 +130,8 @@ module _ {T : Type 0} where
   pub table-moved : {links : Links} {rows : List (Option T)} {walk : Option Walk}
       → IsSound links rows walk → walked_in walk ≡ None
       → (new : Links) (most : ℕ) → Changes links new most → (other : List (List ℕ))
-      → (Holds links.next.items links.lasts.items [] (seen_chains links walk)
-      → Holds new.next.items new.lasts.items [] other)
+      → (HoldChains links.next.items links.lasts.items [] (seen_chains links walk)
+      → HoldChains new.next.items new.lasts.items [] other)
       → chain_in other 0 ≡ chain_in (seen_chains links walk) 0
       → IsTable new.next.items (seen_lasts new.lasts.items walk) rows other
   table-moved {links} {rows} {walk} s rest new most changes other step same =
@@ -190,7 +190,7 @@ module _ {T : Type 0} where
       {chains : List (List ℕ)} → IsTable next lasts rows chains
       → (new : List ℕ) (noted : List (Option ℕ)) (row : ℕ) (rest : List ℕ)
       → chain_in chains 0 ≡ row ∷ rest
-      → Holds new noted (row ∷ []) (shortened chains 0) → length new ≡ length next
+      → HoldChains new noted (row ∷ []) (shortened chains 0) → length new ≡ length next
       → length noted ≡ length lasts
       → IsOpen new noted rows row (shortened chains 0)
   open-free {next} {lasts} {rows} {chains} t new noted row rest is h long as_many =
@@ -221,7 +221,7 @@ module _ {T : Type 0} where
       {chains : List (List ℕ)} → IsTable next lasts rows chains
       → (new : List ℕ) (noted : List (Option ℕ)) (chain row : ℕ) (rest : List ℕ) → 0 < chain
       → chain_in chains chain ≡ row ∷ rest
-      → Holds new noted (row ∷ []) (shortened chains chain) → length new ≡ length next
+      → HoldChains new noted (row ∷ []) (shortened chains chain) → length new ≡ length next
       → length noted ≡ length lasts
       → IsOpen new noted (set rows row None) row (shortened chains chain)
   open-taken {next} {lasts} {rows} {chains} t new noted chain row rest shown is h long as_many =
@@ -277,7 +277,7 @@ module _ {T : Type 0} where
 
   pub closed-free : {next : List ℕ} {lasts : List (Option ℕ)} {rows : List (Option T)} {row : ℕ}
       {chains : List (List ℕ)} → IsOpen next lasts rows row chains
-      → (new : List ℕ) (noted : List (Option ℕ)) → Holds new noted [] (preceded chains 0 row)
+      → (new : List ℕ) (noted : List (Option ℕ)) → HoldChains new noted [] (preceded chains 0 row)
       → length new ≡ length next → length noted ≡ length lasts
       → IsTable new noted rows (preceded chains 0 row)
   closed-free {next} {lasts} {rows} {row} {chains} o new noted h long as_many =
@@ -299,7 +299,7 @@ module _ {T : Type 0} where
   pub closed-filled : {next : List ℕ} {lasts : List (Option ℕ)} {rows : List (Option T)} {row : ℕ}
       {chains : List (List ℕ)} → IsOpen next lasts rows row chains
       → (new : List ℕ) (noted : List (Option ℕ)) (chain : ℕ) (value : T) → 0 < chain
-      → Holds new noted [] (lengthened chains chain row)
+      → HoldChains new noted [] (lengthened chains chain row)
       → length new ≡ length next → length noted ≡ length lasts
       → IsTable new noted (set rows row (Some value)) (lengthened chains chain row)
   closed-filled {next} {lasts} {rows} {row} {chains} o new noted chain value shown h long as_many =

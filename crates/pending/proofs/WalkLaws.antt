@@ -9,7 +9,7 @@ use Rattle.pending.specs.declared.chains.links.Links.{Links}
 use Rattle.pending.specs.declared.chains.walk.Walk.{Walk}
 use Rattle.pending.specs.Lends.{with_value}
 use Rattle.pending.specs.ChainsView.{chain_in, lifted, preceded, shortened, turned, with_first}
-use Rattle.pending.specs.inside.Tables.{Changes, IsLoose, Holds, seen_lasts, values_of, after}
+use Rattle.pending.specs.inside.Tables.{Changes, IsLoose, HoldChains, seen_lasts, values_of, after}
 use Rattle.pending.specs.inside.Tables.{last_in, times, walked_in, shown_of, IsSound, IsTable}
 use Rattle.pending.specs.inside.Tables.{seen_chains}
 use Rattle.pending.proofs.RingLaws.{chain-map, values-append, values-first, values-kept, times-same}
@@ -111,7 +111,7 @@ module _ {T : Type 0} where
       → walk.at ≡ Some at → row ≡ after links.next.items at → 0 < onto → onto ≢ walk.chain
       → Changes links mid 1 → Changes mid new 2 → mid.lasts.items ≡ links.lasts.items
       → new.lasts.items ≡ set mid.lasts.items onto (last_in new.lasts.items onto)
-      → Holds new.next.items (set
+      → HoldChains new.next.items (set
       (set (seen_lasts links.lasts.items (Some walk)) walk.chain left) onto
       (last_in new.lasts.items onto)) []
       (preceded (shortened (seen_chains links (Some walk)) walk.chain) onto row)
@@ -226,22 +226,22 @@ module _ {T : Type 0} where
       (at row : ℕ) (left : Option ℕ) → IsSound links rows walk
       → walk ≡ Some w → w.at ≡ Some at → row ≡ after links.next.items at
       → ((lasts : List (Option ℕ)) (loose : List ℕ) (chains : List (List ℕ)) (chain : ℕ)
-      → Holds links.next.items lasts loose chains → last_in lasts chain ≡ Some at
-      → Holds mid.next.items (set lasts chain left) (after links.next.items at ∷ loose)
+      → HoldChains links.next.items lasts loose chains → last_in lasts chain ≡ Some at
+      → HoldChains mid.next.items (set lasts chain left) (after links.next.items at ∷ loose)
       (shortened chains chain))
-      → Holds mid.next.items (set (seen_lasts links.lasts.items (Some w)) w.chain left) (row ∷ [])
+      → HoldChains mid.next.items (set (seen_lasts links.lasts.items (Some w)) w.chain left) (row ∷ [])
       (shortened (seen_chains links (Some w)) w.chain)
   lift-cut links mid rows walk w at row left s is there leads cut =
       let other = sound-at walk (Some w) is s in
       let P : ℕ → Type 0 =
-      λ r. Holds mid.next.items (set (seen_lasts links.lasts.items (Some w)) w.chain left)
+      λ r. HoldChains mid.next.items (set (seen_lasts links.lasts.items (Some w)) w.chain left)
       (r ∷ []) (shortened (seen_chains links (Some w)) w.chain) in
       subst P (sym leads) (cut (seen_lasts links.lasts.items (Some w)) []
       (seen_chains links (Some w)) w.chain (other.table).holds (walk-last w other ∙ there))
 
   pub lift-loose : (links mid : Links) (rows : List (Option T)) (w : Walk) (row onto : ℕ)
       (left : Option ℕ)
-      → Holds mid.next.items (set (seen_lasts links.lasts.items (Some w)) w.chain left) (row ∷ [])
+      → HoldChains mid.next.items (set (seen_lasts links.lasts.items (Some w)) w.chain left) (row ∷ [])
       (shortened (seen_chains links (Some w)) w.chain)
       → Changes links mid 1 → mid.lasts.items ≡ links.lasts.items → onto ≢ w.chain
       → onto < length links.lasts.items
@@ -255,12 +255,12 @@ module _ {T : Type 0} where
       → onto < length links.lasts.items
       → Changes links mid 1 → Changes mid new 2 → mid.lasts.items ≡ links.lasts.items
       → new.lasts.items ≡ set mid.lasts.items onto (last_in new.lasts.items onto)
-      → Holds mid.next.items (set (seen_lasts links.lasts.items (Some w)) w.chain left) (row ∷ [])
+      → HoldChains mid.next.items (set (seen_lasts links.lasts.items (Some w)) w.chain left) (row ∷ [])
       (shortened (seen_chains links (Some w)) w.chain)
       → ((lasts : List (Option ℕ)) (loose : List ℕ) (chains : List (List ℕ))
-      → Holds mid.next.items lasts (row ∷ loose) chains → onto < length lasts
+      → HoldChains mid.next.items lasts (row ∷ loose) chains → onto < length lasts
       → last_in lasts onto ≡ last_in mid.lasts.items onto
-      → Holds new.next.items (set lasts onto (last_in new.lasts.items onto)) loose
+      → HoldChains new.next.items (set lasts onto (last_in new.lasts.items onto)) loose
       (preceded chains onto row))
       → IsTable new.next.items
       (seen_lasts new.lasts.items (Some (record { chain = w.chain; at = left }))) rows

@@ -2,14 +2,17 @@
 //! NetworkBlockDevice project. What is tested is what no contract says: the numbers on the wire, and
 //! that the input is understood.
 use bio::{End, Ms, SectorSize};
+use blockdev::BlockDev;
+use log_reader::LogReader;
 use nbd::{
-    Export, Header, Host, Negotiated, Served, Server, SessionEnd, negotiate, serve, transmit,
+    Export, Host, Negotiated, RequestHeader, Served, Server, SessionEnd, negotiate, serve, transmit,
 };
 use script_runner::new_recorder;
 use sector_disk::SectorDisk;
 use std::alloc::Global;
 use std::process::Abort;
 use std::test::*;
+use test_devices::{Failing, Watched};
 
 // A request's flags and command: a write with FUA, and so on.
 const WRITE_FUA: &[u8] = b"\x00\x01\x00\x01";
@@ -30,13 +33,13 @@ const WRITE_ZEROES: &[u8] = b"\x00\x00\x00\x06";
 // Surroundings in which marks are set one after another: as many as are left, each before the next
 // request comes.
 #[derive(Drop)]
-struct Marks {
+struct MarksBetween {
     alloc: Global,
     left: u64,
     waits: bool,
 }
 
-impl Host for Marks {
+impl Host for MarksBetween {
     fn now(&mut self) -> Ms {
         Ms::new(0)
     }
@@ -53,9 +56,55 @@ impl Host for Marks {
         Some(text)
     }
 
-    fn request_came(&mut self, _header: &Header) {}
+    fn request_came(&mut self, _header: &RequestHeader) {}
 
     fn logging_ended(&mut self, _cause: End) {}
+}
+
+// Surroundings that note what they hear. The time is the number of the requests so far. Two marks,
+// `one` and `two`, are set while the second request is waited for.
+#[derive(Drop)]
+struct Noting {
+    alloc: Global,
+    looks: u64,
+    came: u64,
+    ended: u64,
+}
+
+impl Noting {
+    fn new(alloc: Global) -> Noting {
+        Noting {
+            alloc,
+            looks: 0,
+            came: 0,
+            ended: 0,
+        }
+    }
+}
+
+impl Host for Noting {
+    fn now(&mut self) -> Ms {
+        Ms::new(self.came)
+    }
+
+    fn next_mark(&mut self) -> Option<Vec<u8>> {
+        self.looks = self.looks.saturating_add(1);
+        let mut text = Vec::new(self.alloc);
+        match self.looks {
+            2 => text.extend_from_slice(b"one").ok()?,
+            3 => text.extend_from_slice(b"two").ok()?,
+            _ => return None,
+        }
+        Some(text)
+    }
+
+    fn request_came(&mut self, _header: &RequestHeader) {
+        self.came = self.came.saturating_add(1);
+    }
+
+    fn logging_ended(&mut self, _cause: End) {
+        self.ended = self.ended.saturating_add(1);
+    }
 }
 
 // What a client sends.
@@ -87,6 +136,14 @@ impl Client {
         self.says(rt, b"\x00");
     }
 
+    // Sends a request over the first 2,056 sectors, without its data.
+    fn asks_long(&mut self, rt: &impl Abort, command: &[u8]) {
+        self.says(rt, b"\x25\x60\x95\x13");
+        self.says(rt, command);
+        self.says(rt, b"abcdefgh\x00\x00\x00\x00\x00\x00\x00\x00");
+        self.says(rt, b"\x00\x10\x10\x00");
+    }
+
     // Sends a request's data: one sector.
     fn sends_sector(&mut self, rt: &impl Abort, byte: u8) {
         self.bytes
@@ -111,7 +168,7 @@ fn session(
 ) -> (Result<(), SessionEnd>, Vec<u8>) {
     let mut input = client.bytes.as_slice();
     let mut out = Vec::new(alloc);
-    let mut host = Marks {
+    let mut host = MarksBetween {
         alloc,
         left: marks,
         waits: false,
@@ -120,7 +177,6 @@ fn session(
     (end, out)
 }
 
-// Makes the handshake with these bytes of a client.
 fn handshake(alloc: Global, bytes: &[u8]) -> (Result<Negotiated, SessionEnd>, Vec<u8>) {
     let export = Export {
         bytes: 8192,
@@ -240,7 +296,7 @@ fn a_session_is_served(rt: HostRuntime) {
     client.asks(&rt, DISCONNECT, 0, 0);
     let mut input = client.bytes.as_slice();
     let mut out = Vec::new(rt.alloc());
-    let mut host = Marks {
+    let mut host = MarksBetween {
         alloc: rt.alloc(),
         left: 0,
         waits: false,
@@ -251,4 +307,172 @@ fn a_session_is_served(rt: HostRuntime) {
     assert!(&rt; out.len() == 18 + 10 + 16);
     // The write, and the mark with which a closed log ends.
     assert!(&rt; server.recorder().status().entries == 2);
+}
+
+#[test]
+fn marks_are_recorded_where_they_were_set(rt: HostRuntime) {
+    let mut server = new_server(&rt, rt.alloc());
+    let mut client = Client::new(rt.alloc());
+    client.asks(&rt, WRITE_FUA, 0, 1);
+    client.sends_sector(&rt, 1);
+    client.asks(&rt, WRITE_FUA, 1, 1);
+    client.sends_sector(&rt, 2);
+    client.asks(&rt, DISCONNECT, 0, 0);
+    let mut input = client.bytes.as_slice();
+    let mut out = Vec::new(rt.alloc());
+    let mut host = Noting::new(rt.alloc());
+    let end = transmit(&mut server, &mut input, &mut out, &mut host);
+    assert!(&rt; end == Ok(()));
+    assert!(&rt; host.came == 2 && host.ended == 0);
+    // A write, both marks, and a write.
+    let (recorder, _) = server.into_parts();
+    let mut log = LogReader::open(rt.alloc(), recorder.into_device())
+        .ok()
+        .expect(&rt, "a log");
+    assert!(&rt; log.head().count == 4);
+    assert!(&rt; log.find_mark(b"one") == Ok(Some(1)));
+    assert!(&rt; log.find_mark(b"two") == Ok(Some(2)));
+}
+
+#[test]
+fn requests_have_the_time_at_which_they_came(rt: HostRuntime) {
+    let lower = SectorDisk::new(rt.alloc(), 16).expect(&rt, "memory");
+    let disk = Watched::new(rt.alloc(), lower);
+    let log = SectorDisk::new(rt.alloc(), 64).expect(&rt, "memory");
+    let recorder = new_recorder(rt.alloc(), log, SectorSize::B512).expect(&rt, "a recorder");
+    let mut server = Server::new(rt.alloc(), recorder, disk, SectorSize::B512);
+    let mut client = Client::new(rt.alloc());
+    client.asks(&rt, WRITE_FUA, 0, 1);
+    client.sends_sector(&rt, 1);
+    client.asks(&rt, READ, 0, 1);
+    client.asks(&rt, FLUSH, 0, 0);
+    client.asks(&rt, TRIM, 0, 1);
+    client.asks(&rt, DISCONNECT, 0, 0);
+    let mut input = client.bytes.as_slice();
+    let mut out = Vec::new(rt.alloc());
+    let mut host = Noting::new(rt.alloc());
+    assert!(&rt; transmit(&mut server, &mut input, &mut out, &mut host) == Ok(()));
+    let (_, disk) = server.into_parts();
+    assert!(&rt; disk.seen.as_str() == "F0+1@1 r0+1@2 f0+0@3 d0+1@4 ");
+}
+
+#[test]
+fn long_requests_are_done_in_parts(rt: HostRuntime) {
+    let lower = SectorDisk::new(rt.alloc(), 4096).expect(&rt, "memory");
+    let disk = Watched::new(rt.alloc(), lower);
+    let log = SectorDisk::new(rt.alloc(), 4096).expect(&rt, "memory");
+    let recorder = new_recorder(rt.alloc(), log, SectorSize::B512).expect(&rt, "a recorder");
+    let mut server = Server::new(rt.alloc(), recorder, disk, SectorSize::B512);
+    let mut client = Client::new(rt.alloc());
+    client.asks_long(&rt, WRITE_FUA);
+    let length = client.bytes.len().saturating_add(1_052_672);
+    client.bytes.resize(length, 7).expect(&rt, "memory");
+    client.asks_long(&rt, READ);
+    client.asks_long(&rt, TRIM);
+    client.asks(&rt, DISCONNECT, 0, 0);
+    let mut input = client.bytes.as_slice();
+    let mut out = Vec::new(rt.alloc());
+    let mut host = Noting::new(rt.alloc());
+    assert!(&rt; transmit(&mut server, &mut input, &mut out, &mut host) == Ok(()));
+    assert!(&rt; out.len() == 16 + 16 + 1_052_672 + 16);
+    assert!(&rt; out[7] == 0 && out[23] == 0 && out[32] == 7 && out[1_052_703] == 7);
+    assert!(&rt; out[1_052_711] == 0);
+    let (_, disk) = server.into_parts();
+    // A long read is made twice, so that a failure is told before its data.
+    assert!(&rt;
+        disk.seen.as_str()
+            == "F0+2048@1 F2048+8@1 r0+2048@2 r2048+8@2 r0+2048@2 r2048+8@2 d0+2048@3 d2048+8@3 "
+    );
+}
+
+#[test]
+fn a_long_read_that_fails_is_answered(rt: HostRuntime) {
+    let lower = SectorDisk::new(rt.alloc(), 4096).expect(&rt, "memory");
+    let disk = Failing::in_reads(lower, 1);
+    let log = SectorDisk::new(rt.alloc(), 64).expect(&rt, "memory");
+    let recorder = new_recorder(rt.alloc(), log, SectorSize::B512).expect(&rt, "a recorder");
+    let mut server = Server::new(rt.alloc(), recorder, disk, SectorSize::B512);
+    let mut client = Client::new(rt.alloc());
+    client.asks_long(&rt, READ);
+    client.asks(&rt, FLUSH, 0, 0);
+    client.asks(&rt, DISCONNECT, 0, 0);
+    let mut input = client.bytes.as_slice();
+    let mut out = Vec::new(rt.alloc());
+    let mut host = Noting::new(rt.alloc());
+    assert!(&rt; transmit(&mut server, &mut input, &mut out, &mut host) == Ok(()));
+    // The device's fault, and the flush.
+    assert!(&rt; out.len() == 32 && out[7] == 5 && out[23] == 0);
+}
+
+#[test]
+fn many_requests_are_answered(rt: HostRuntime) {
+    let mut server = new_server(&rt, rt.alloc());
+    let mut client = Client::new(rt.alloc());
+    for _ in 0..300 {
+        client.asks(&rt, READ, 0, 1);
+    }
+    client.asks(&rt, DISCONNECT, 0, 0);
+    let (end, out) = session(rt.alloc(), &mut server, client, 0);
+    assert!(&rt; end == Ok(()));
+    assert!(&rt; out.len() == 300 * 528);
+}
+
+#[test]
+fn the_end_of_logging_is_told_once(rt: HostRuntime) {
+    let disk = SectorDisk::new(rt.alloc(), 16).expect(&rt, "memory");
+    let log = SectorDisk::new(rt.alloc(), 6).expect(&rt, "memory");
+    let recorder = new_recorder(rt.alloc(), log, SectorSize::B512).expect(&rt, "a recorder");
+    let mut server = Server::new(rt.alloc(), recorder, disk, SectorSize::B512);
+    let mut client = Client::new(rt.alloc());
+    for first in 0..8_u8 {
+        client.asks(&rt, WRITE_FUA, first, 1);
+        client.sends_sector(&rt, first);
+    }
+    client.asks(&rt, DISCONNECT, 0, 0);
+    let mut input = client.bytes.as_slice();
+    let mut out = Vec::new(rt.alloc());
+    let mut host = Noting::new(rt.alloc());
+    assert!(&rt; transmit(&mut server, &mut input, &mut out, &mut host) == Ok(()));
+    // What isn't recorded any more is answered well.
+    assert!(&rt; out.len() == 128 && out[7] == 0 && out[119] == 0);
+    assert!(&rt; host.came == 8 && host.ended == 1);
+}
+
+#[test]
+fn each_end_of_a_session_is_told(rt: HostRuntime) {
+    let mut server = new_server(&rt, rt.alloc());
+    let mut input = b"\x00\x00\x00\x03IHAVEOPT\x00\x00\x00\x01\x00\x00\x00\x00".as_slice();
+    let mut out = Vec::new(rt.alloc());
+    let mut host = Noting::new(rt.alloc());
+    let how = serve(&mut server, &mut input, &mut out, &mut host);
+    assert!(&rt; matches!(how, Ok(Served::BrokeOff(SessionEnd::InputEnded))));
+    let mut server = new_server(&rt, rt.alloc());
+    let mut input = b"\x00\x00\x00\x03IHAVEOPT\x00\x00\x00\x02\x00\x00\x00\x00".as_slice();
+    let mut out = Vec::new(rt.alloc());
+    let mut host = Noting::new(rt.alloc());
+    let how = serve(&mut server, &mut input, &mut out, &mut host);
+    assert!(&rt; matches!(how, Ok(Served::Left)));
+    // The greeting, and the answer to the option by which the client leaves.
+    assert!(&rt; out.len() == 18 + 20 && out[37] == 0 && out[33] == 1);
+    assert!(&rt; server.recorder().status().entries == 1);
+}
+
+#[test]
+fn each_flag_and_long_name_is_taken(rt: HostRuntime) {
+    for flags in 0..4_u8 {
+        let mut client = Client::new(rt.alloc());
+        client.says(&rt, b"\x00\x00\x00");
+        client.bytes.push(flags).expect(&rt, "memory");
+        // `GO` for a name of 4,096 bytes.
+        client.says(
+            &rt,
+            b"IHAVEOPT\x00\x00\x00\x07\x00\x00\x10\x06\x00\x00\x10\x00",
+        );
+        let length = client.bytes.len().saturating_add(4096);
+        client.bytes.resize(length, 97).expect(&rt, "memory");
+        client.says(&rt, b"\x00\x00");
+        let (end, out) = handshake(rt.alloc(), client.bytes.as_slice());
+        assert!(&rt; end == Ok(Negotiated::Begun));
+        assert!(&rt; out.len() == 18 + 32 + 34 + 20);
+    }
 }

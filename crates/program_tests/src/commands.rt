@@ -59,7 +59,6 @@ pub fn with_semicolons(alloc: Global, text: &str) -> Result<String, AllocError> 
     Ok(shown)
 }
 
-/// Returns a folder with a script.
 pub fn folder_of(alloc: Global, script: &str) -> Result<Folder, AllocError> {
     let mut folder = Folder::new(alloc);
     let script = Vec::from_slice(alloc, script.as_bytes())?;
@@ -169,11 +168,11 @@ fn refuses_a_longer_image(rt: HostRuntime) {
 
 // A writer that counts its writes.
 #[derive(Drop)]
-struct Counted {
+struct CountedWrites {
     writes: usize,
 }
 
-impl Write for Counted {
+impl Write for CountedWrites {
     fn write(&mut self, buf: &[u8]) -> io::Result<usize> {
         self.writes = self.writes.saturating_add(1);
         Ok(buf.len())
@@ -191,7 +190,7 @@ fn tells_a_fault_in_one_write(rt: HostRuntime) {
         explains: false,
         files: OneFile::new(b"data 16\nlog 32\nno\n".as_slice()),
         out: Vec::new(rt.alloc()),
-        err: Counted { writes: 0 },
+        err: CountedWrites { writes: 0 },
     };
     let words = ["dmlw", "record", "script", "log"];
     let ended = execute(&rt, &words, &mut session);

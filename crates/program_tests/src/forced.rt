@@ -109,7 +109,7 @@ fn push_crash(rt: &impl Abort, alloc: Global, numbers: &mut Numbers, text: &mut 
 
 // The counts over all scripts.
 #[derive(Debug, Drop)]
-struct Seen {
+struct ScriptCounts {
     // How many logs were found after a crash, and how many of their prefixes were judged.
     logs: u64,
     beginnings: u64,
@@ -164,7 +164,7 @@ fn force(
     alloc: Global,
     script: &str,
     folder: &mut Folder,
-    seen: &mut Seen,
+    seen: &mut ScriptCounts,
 ) {
     let recorded = output_of(rt, alloc, "record script log", folder).expect(rt, "memory");
     let listed = output_of(rt, alloc, "list log", folder).expect(rt, "memory");
@@ -182,7 +182,7 @@ fn force_seed(
     rt: &(impl Abort + Print + Threads + Wait + Sync),
     alloc: Global,
     seed: usize,
-    seen: &mut Seen,
+    seen: &mut ScriptCounts,
 ) {
     let mut numbers = Numbers::new(seed as u64);
     let head = HEADS.get(seed % HEADS.len()).copied().unwrap_or_default();
@@ -198,7 +198,7 @@ fn force_seed(
 #[test]
 fn crashes_leave_beginnings_that_are_judged_possible(rt: HostRuntime) {
     let alloc = rt.alloc();
-    let mut seen = Seen {
+    let mut seen = ScriptCounts {
         logs: 0,
         beginnings: 0,
     };

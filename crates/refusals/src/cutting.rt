@@ -45,7 +45,6 @@ pub fn word_at(line: &[u8], place: usize) -> Option<&[u8]>
         .nth(place)
 }
 
-/// Returns ASCII bytes as text.
 pub fn ascii_text(bytes: &[u8]) -> &str
     requires { IsAscii bytes.now }
     ensures { result.now ≡ bytes.now }

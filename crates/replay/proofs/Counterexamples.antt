@@ -13,14 +13,14 @@ use Rattle.log_format.specs.declared.entry.Entry.{Entry}
 use Rattle.log_format.specs.Entries.{end_mark, no_flags}
 use Rattle.log_format.specs.Replay.{replay}
 use Rattle.log_store.specs.Calls.{append_calls, settle_calls}
-use Rattle.log_store.specs.Store.{Store, entries_of}
+use Rattle.log_store.specs.Store.{Store, store_entries}
 use Rattle.log_reader.specs.declared.fault.LogFault.TheVariants.{CutShort}
 use Rattle.log_reader.specs.declared.fault.ReadDeviceError.TheVariants as reads
 use Rattle.log_reader.specs.Reader.{Reader}
 use Rattle.replay.specs.Calls.{CopyReads, IsCalled, ReadsToStop, entry_calls}
-use Rattle.replay.specs.Copies.{EndsSince, IsCopied, IsUnaligned}
-use Rattle.replay.specs.Copies.{RefusesNoMore as CopyRefusesNoMore, Replays, SettledBy, SettlesOnly}
-use Rattle.replay.specs.Copies.{StopsBy}
+use Rattle.replay.specs.Copies.{EndsSince, EntriesAreCopied, IsUnaligned}
+use Rattle.replay.specs.Copies.{RefusesNoMore as CopyRefusesNoMore, ReplaysAlike, SettledBy, SettlesOnly}
+use Rattle.replay.specs.Copies.{CopyStopsBy}
 use Rattle.replay.specs.Copies.{StopsCalls, copy_calls, is_aligned_to, resized}
 use Rattle.replay.specs.declared.fault.CopyError.TheVariants as copies
 use Rattle.replay.specs.declared.fault.ReplayError.TheVariants as replays
@@ -160,12 +160,12 @@ abbrev still_device : View
 still_device =
     record {
       size = 64;
-      place = record { origin = 0; disk = 64 };
+      origin = record { sector = 0; disk = 64 };
       content = zeroes;
       crash = λ left. (sector : ℕ)
           → left sector ≡ zeroes sector;
-      moment = 0;
-      since = λ moment left. (sector : ℕ)
+      clock = 0;
+      since = λ reading left. (sector : ℕ)
           → left sector ≡ zeroes sector;
       faults = 0;
       lies = 0;
@@ -204,13 +204,13 @@ short_unaligned : is_aligned_to 512 4096 (record eight { nr_sectors = 4 }) ≡ f
 short_unaligned = refl
 
 -- more entries than there are
-some : IsCopied 512 [] 0 1 none one → ⊥
+some : EntriesAreCopied 512 [] 0 1 none one → ⊥
 some copied = let few = copied.some (omega arith) in omega arith
 
 -- two that are swapped
-swapped : (new : Store) → new.device.lies ≡ 0 → entries_of none ≡ []
-    → IsCopied 512 (end_mark ∷ eight ∷ []) 0 2 none new
-    → entries_of new ≡ resized 512 4096 eight ∷ resized 512 4096 end_mark ∷ [] → ⊥
+swapped : (new : Store) → new.device.lies ≡ 0 → store_entries none ≡ []
+    → EntriesAreCopied 512 (end_mark ∷ eight ∷ []) 0 2 none new
+    → store_entries new ≡ resized 512 4096 eight ∷ resized 512 4096 end_mark ∷ [] → ⊥
 swapped new honest empty copied have =
     let other : resized 512 4096 eight ∷ resized 512 4096 end_mark ∷ [] ≡ resized 512 4096 end_mark
     ∷ resized 512 4096 eight ∷ [] =
@@ -260,7 +260,7 @@ reader =
 
 -- a fault that the log hasn't, want of memory of a reader
 -- that didn't refuse, and a refusal before that wasn't there
-told_fault : StopsBy [] None 0 reader reader none none (copies.Log (reads.Log CutShort)) → ⊥
+told_fault : CopyStopsBy [] None 0 reader reader none none (copies.Log (reads.Log CutShort)) → ⊥
 told_fault told = let fault = told.0 in cc
 
 -- a reader that refused first in the copy
@@ -276,8 +276,8 @@ abbrev sevens : Content
 sevens sector = replicate 512 7
 
 -- a new log of no entries doesn't replay to what the discard leaves
-replays_nothing : (new : Store) → new.device.lies ≡ 0 → entries_of new ≡ []
-    → Replays 512 (clears ∷ []) none new → ⊥
+replays_nothing : (new : Store) → new.device.lies ≡ 0 → store_entries new ≡ []
+    → ReplaysAlike 512 (clears ∷ []) none new → ⊥
 unfolding contents.over
 replays_nothing new honest empty told =
     let same : sevens ≡ replay 512 (clears ∷ []) sevens =

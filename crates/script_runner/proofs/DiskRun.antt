@@ -22,24 +22,24 @@ use Rattle.blockdev.specs.declared.device.BlockDev.{Ghosts}
 use Rattle.blockdev.specs.Law.{DeviceFrame}
 use Rattle.sector_disk.specs.CandidateLaws.{content_whole, disk_lawful, is_current, picks_leave_one}
 use Rattle.sector_disk.specs.declared.disk.SectorDisk.{SectorDisk}
-use Rattle.sector_disk.specs.DiskView.{Begins, cache_of, shown_of, start_of, steps_of}
+use Rattle.sector_disk.specs.DiskView.{PastBegins, cache_of, shown_of, start_of, past_steps}
 use Rattle.layer_table.specs.declared.layer_spec.LayerSpec.{LayerSpec}
 use Rattle.layer_table.specs.declared.stack.Stack.{Stack}
 use Rattle.layer_table.specs.Layers.{on_stack, AreOver, LayersDo, layers_of, layers_under}
 use Rattle.layer_table.specs.Layers.{stack_does, stack_shown, disk_of, top_origin}
-use Rattle.layer_table.specs.Layers.{IsAllowed, Layer}
+use Rattle.layer_table.specs.Layers.{LayersAreAllowed, Layer}
 use Rattle.layer_table.specs.TableLines.{IsLayerSpec}
 use Rattle.layer_table.specs.StackLaws.{part_of_disk}
 use Rattle.log_format.specs.LogLaws.{log_within}
 use Rattle.log_format.specs.LogOf.{IsLogOf, first_sector, log_sectors, status_of}
 use Rattle.log_store.specs.Calls.{store_of}
 use Rattle.log_store.specs.declared.store.LogStore.{LogStore}
-use Rattle.log_store.specs.Store.{entries_of}
+use Rattle.log_store.specs.Store.{store_entries}
 use Rattle.pending.specs.CoreState.{CoreState, sized_state}
 use Rattle.recorder.specs.Calls.{core_of, recorder_view}
 use Rattle.recorder.specs.declared.recorder.Recorder.{Recorder}
 use Rattle.recorder.specs.Growth.{HasWholeLog, RecorderFrame, ReplaysToPossible}
-use Rattle.recorder.specs.RecorderView.{log_of}
+use Rattle.recorder.specs.RecorderView.{listed_entries}
 use Rattle.dmlw_script.specs.declared.command.Command.{Command}
 use Rattle.dmlw_script.specs.declared.script_id.ScriptId.{ScriptId}
 use Rattle.dmlw_script.specs.Plans.{top_of, Disk, IsDisk, ScriptValue, time_at}
@@ -54,20 +54,20 @@ use Rattle.script_runner.specs.DiskRun.{stack_answering, unmade as no_log, zeroe
 use Rattle.script_runner.specs.inside.{file, run, unmade, FailsPlaying, IsPlayed, StartsOnStack}
 use Rattle.script_runner.specs.inside.{StartsOn}
 use Rattle.script_runner.specs.Lines.{Answering}
-use Rattle.script_runner.specs.Runs.{IsWritten, RunsLines}
+use Rattle.script_runner.specs.Runs.{LogIsWritten, RunsLines}
 
-pub asked : (sectors : ℕ) (layers : List LayerSpec) → IsAllowed sectors layers
+pub asked : (sectors : ℕ) (layers : List LayerSpec) → LayersAreAllowed sectors layers
     → AllByRecursion IsLayerSpec layers
 asked sectors [] stand = tt
 asked sectors (layer ∷ layers) stand = (stand.0, asked layer.length layers stand.2)
 
 pub stands : (disk : Disk) (layers : List LayerSpec) {sectors : ℕ} → layers ≡ disk.layers
-    → sectors ≡ disk.sectors → IsDisk disk → IsAllowed sectors layers
+    → sectors ≡ disk.sectors → IsDisk disk → LayersAreAllowed sectors layers
 stands disk layers {sectors} above here is =
-    rw above (subst (λ (n : ℕ). IsAllowed n disk.layers) (sym here) is.stand)
+    rw above (subst (λ (n : ℕ). LayersAreAllowed n disk.layers) (sym here) is.stand)
 
 pub stacked : (spec : Disk) (disk : SectorDisk) (stack : Stack) {sectors : ℕ}
-    → sectors ≡ spec.sectors → Begins sectors zeroes (shown_of disk) → disk_of stack ≡ disk
+    → sectors ≡ spec.sectors → PastBegins sectors zeroes (shown_of disk) → disk_of stack ≡ disk
     → layers_of stack ≡ layers_under spec.layers 0 []
     → AreOver spec.layers (shown_of disk) (stack_shown stack) → IsStackOf spec stack
 stacked spec disk stack {sectors} here blank is named over = record {
@@ -80,14 +80,14 @@ pub stack_size : (disk : Disk) (stack : Stack) → IsStackOf disk stack
     → (stack_shown stack).size ≡ top_of disk
 stack_size disk stack is = grind (arith, is.over.size, is.blank.size)
 
-stack_place : (disk : Disk) (stack : Stack) → IsStackOf disk stack
-    → (stack_shown stack).place ≡ record { origin = top_origin 0 disk.layers; disk = disk.sectors }
-stack_place disk stack is =
-    grind (arith, is.over.place, is.blank.size)
+stack_origin : (disk : Disk) (stack : Stack) → IsStackOf disk stack
+    → (stack_shown stack).origin ≡ record { sector = top_origin 0 disk.layers; disk = disk.sectors }
+stack_origin disk stack is =
+    grind (arith, is.over.origin, is.blank.size)
 
 pub new_log : {L : Type 0} {l : Ghosts L} (bytes : ℕ) (device : L) (store : LogStore L l)
     (recorder : Recorder L l)
-    → (store_of store).sector_bytes ≡ bytes → store.placed ≡ 0 → store.moment ≡ 0
+    → (store_of store).sector_bytes ≡ bytes → store.placed ≡ 0 → store.time ≡ 0
     → DeviceFrame (writes 0 (first_sector bytes 0)) (l.shown device) (l.shown store.device)
     → ((l.shown store.device).lies ≡ 0 → (left : Content) → (l.shown store.device).crash left
     → IsLogOf (l.shown store.device).size left bytes [])
@@ -97,7 +97,7 @@ new_log {L} {l} bytes device store recorder size none start goes empty (core, sa
   core = core ∙ ap sized_state size;
   end = end;
   placed = grind (arith, same, none);
-  moment = grind (arith, same, start);
+  time = grind (arith, same, start);
   made =
       rw same goes;
   empty =
@@ -113,24 +113,24 @@ may_leave : (ending : Option (List ℕ)) (disk : SectorDisk)
     → (shown_of disk).crash (left_on ending disk)
 may_leave None disk = (disk_lawful disk).current
 may_leave (Some picks) disk =
-    picks_leave_one (cache_of disk) picks (is_current (start_of disk) (steps_of disk))
+    picks_leave_one (cache_of disk) picks (is_current (start_of disk) (past_steps disk))
 
 -- If the content that is left on the disk has a log, the image of the disk has it too.
 image_log : (plan : ScriptValue) (device : Stack) (seen : Content) (image : List ℕ)
     → bytes_of plan.log_size / 512 ≤ top_of plan.log_disk
     → (stack_shown device).size ≡ top_of plan.log_disk
-    → (stack_shown device).place
-    ≡ record { origin = top_origin 0 plan.log_disk.layers; disk = plan.log_disk.sectors }
+    → (stack_shown device).origin
+    ≡ record { sector = top_origin 0 plan.log_disk.layers; disk = plan.log_disk.sectors }
     → AgreeBelow plan.log_disk.sectors (left_on plan.ending (disk_of device)) (sector_of image)
     → ((sector : ℕ) → seen sector
-    ≡ left_on plan.ending (disk_of device) ((stack_shown device).place.origin + sector))
+    ≡ left_on plan.ending (disk_of device) ((stack_shown device).origin.sector + sector))
     → {es : List _} → IsLogOf (stack_shown device).size seen (bytes_of plan.log_size) es
     → IsLogOf (stack_shown device).size (seen_on plan.log_disk image) (bytes_of plan.log_size) es
 image_log plan device seen image room size place agree looks {es} log_c =
     let part = part_of_disk device in
     let within = part.within in
     let left = left_on plan.ending (disk_of device) in
-    let origin : (stack_shown device).place.origin ≡ top_origin 0 plan.log_disk.layers =
+    let sector_is : (stack_shown device).origin.sector ≡ top_origin 0 plan.log_disk.layers =
     grind (arith, place) in
     let disk : (shown_of (disk_of device)).size ≡ plan.log_disk.sectors =
     grind (arith, sym part.disk, place) in
@@ -139,7 +139,7 @@ image_log plan device seen image room size place agree looks {es} log_c =
     log_within (stack_shown device).size seen (seen_on plan.log_disk image)
     (bytes_of plan.log_size) es some
     (λ sector h. agree (top_origin 0 plan.log_disk.layers + sector) (omega arith)
-    ∙ ap (λ (n : ℕ). left (n + sector)) (sym origin) ∙ sym (looks sector)) log_c
+    ∙ ap (λ (n : ℕ). left (n + sector)) (sym sector_is) ∙ sym (looks sector)) log_c
 
 abbrev pub image_of : SectorDisk → List ℕ
 image_of disk = gather (shown_of disk).content 0 (shown_of disk).size
@@ -163,7 +163,7 @@ pub same_lies : (lies : Lies) (over_data over_log : ℕ) → lies.data_disk ≡ 
 same_lies lies over_data over_log here there = rw (sym here, sym there) refl
 
 new_written : (bytes : ℕ) (disk : Disk) (recorder : DiskRecorder) → IsNew bytes disk recorder
-    → IsWritten recorder
+    → LogIsWritten recorder
 new_written bytes disk recorder new = λ closed on. absurd
     (let recording = ap (λ (c : CoreState). has_no_close c.events) new.begun.core in cc)
 
@@ -175,7 +175,7 @@ pub is_recorded : (plan : ScriptValue) (text : List ℕ) (start last : DiskRun) 
     → IsCounted status last.recorder
     → ((stack_shown last.recorder.store.device).lies ≡ 0
     → status ≡ status_of (core_of last.recorder).sector_bytes
-    (entries_of (store_of last.recorder.store)) last.recorder.end)
+    (store_entries (store_of last.recorder.store)) last.recorder.end)
     → log ≡ last.recorder.store.device
     → lies ≡ record { data_disk = (stack_shown last.disk).lies; log_disk = (stack_shown log).lies }
     → length image ≡ 512 * (shown_of (disk_of log)).size
@@ -184,7 +184,7 @@ pub is_recorded : (plan : ScriptValue) (text : List ℕ) (start last : DiskRun) 
     → ((stack_shown last.recorder.store.device).lies ≡ 0 → (left : Content)
     → (stack_shown last.recorder.store.device).crash left
     → ReplaysToPossible (recorder_view last.recorder) (recorder_view last.recorder) left)
-    → (IsWritten start.recorder → last.recorder.end ≡ None
+    → (LogIsWritten start.recorder → last.recorder.end ≡ None
     → has_no_close (core_of last.recorder).events ≡ false
     → (stack_shown last.recorder.store.device).lies ≡ 0
     → HasWholeLog (recorder_view last.recorder))
@@ -195,9 +195,9 @@ is_recorded plan text start last log status lies image picks room starts ran goe
     let new = starts.log_disk in
     let size : (stack_shown device).size ≡ top_of plan.log_disk =
     goes.size ∙ new.begun.made.size ∙ stack_size plan.log_disk new.stack new.blank in
-    let place : (stack_shown device).place
-    ≡ record { origin = top_origin 0 plan.log_disk.layers; disk = plan.log_disk.sectors } =
-    goes.place ∙ new.begun.made.place ∙ stack_place plan.log_disk new.stack new.blank in
+    let place : (stack_shown device).origin
+    ≡ record { sector = top_origin 0 plan.log_disk.layers; disk = plan.log_disk.sectors } =
+    goes.origin ∙ new.begun.made.origin ∙ stack_origin plan.log_disk new.stack new.blank in
     let bytes : (core_of last.recorder).sector_bytes ≡ bytes_of plan.log_size =
     grind (arith, goes.sector_bytes, new.begun.core) in
     let part = part_of_disk device in
@@ -254,7 +254,7 @@ is_recorded plan text start last log status lies image picks room starts ran goe
           };
       whole = λ none closed on.
           subst (λ (n : ℕ). IsLogOf n (seen_on plan.log_disk image) (bytes_of plan.log_size)
-          (log_of (core_of last.recorder))) size
+          (listed_entries (core_of last.recorder))) size
           (image_log plan device seen.0 image room size place agree seen.2
           (rw (← bytes) ((whole (new_written (bytes_of plan.log_size) plan.log_disk start.recorder
           new) on closed (honest none)).crash seen.0 seen.1)));
@@ -273,19 +273,19 @@ pub bare_log_fails : ((old : Stack) (call : Call) (now : ℕ) (result : Result �
 bare_log_fails does bytes disk fault bare un = grind (arith, true, bare_refuses)
 
 pub started_together : (plan : ScriptValue) (start : DiskRun) → Starts plan start
-    → start.recorder.store.moment ≡ start.moment
-started_together plan start starts = starts.log_disk.begun.moment ∙ sym starts.moment
+    → start.recorder.store.time ≡ start.time
+started_together plan start starts = starts.log_disk.begun.time ∙ sym starts.time
 
 pub lines_together : {D L : Type 0} {d : Ghosts D} {l : Ghosts L} (m : Answering D L)
     (names : List ScriptId) (body : List Command) (text : List ℕ) (old new : Running D L d l)
-    → RunsLines m names body text old new → old.recorder.store.moment ≡ old.moment
-    → new.recorder.store.moment ≡ new.moment
+    → RunsLines m names body text old new → old.recorder.store.time ≡ old.time
+    → new.recorder.store.time ≡ new.time
 lines_together {D} {L} {d} {l} m names [] text old new ran same =
-    subst (λ (end : Running D L d l). end.recorder.store.moment ≡ end.moment) (sym ran.1) same
+    subst (λ (end : Running D L d l). end.recorder.store.time ≡ end.time) (sym ran.1) same
 lines_together {D} {L} {d} {l} m names (command ∷ body) text old new ran same =
     let line = ran.4 in
     lines_together {d = d} {l = l} m names body ran.2 ran.0 new ran.5
-    (line.log_moment ∙ ap (λ (moment : ℕ). time_at moment command) same ∙ sym line.moment)
+    (line.log_time ∙ ap (λ (time : ℕ). time_at time command) same ∙ sym line.time)
 
 -- The condition `Start` may be replaced by any condition that it implies.
 pub played_from : {D L : Type 0} {d : Ghosts D} {l : Ghosts L} (m : Answering D L)
@@ -352,7 +352,7 @@ on_beside bytes disk stack log is now starts = record {
   stack = rw starts.disk_is is;
   begun = starts.begun;
   none = starts.none;
-  moment = starts.moment;
+  time = starts.time;
   short = starts.short;
 }
 
@@ -363,7 +363,7 @@ beside_starts plan log is now starts = record {
   data_disk = starts.stack;
   log_disk = record { stack = log; blank = is; begun = starts.begun };
   none = starts.none;
-  moment = starts.moment;
+  time = starts.time;
   short = starts.short;
 }
 

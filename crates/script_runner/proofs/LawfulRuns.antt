@@ -24,7 +24,7 @@ use Rattle.bio.specs.Requests.{bytes_of, check_answer, check_sized_answer, range
 use Rattle.bio.specs.Requests.{unless_unaligned}
 use Rattle.blockdev.specs.declared.device.BlockDev.{Ghosts}
 use Rattle.pending.specs.CoreState.{CoreState, added_to, records, stopped_by}
-use Rattle.recorder.specs.Calls.{Closes, Completes, Drains, Marks, Stops, Submits, Turns, core_of}
+use Rattle.recorder.specs.Calls.{Closes, Completes, Drains, Marks, Stops, SubmitsRequest, Turns, core_of}
 use Rattle.recorder.specs.declared.recorder.Recorder.{Recorder}
 use Rattle.recorder.specs.declared.reply.Reply.{Reply}
 use Rattle.recorder.specs.declared.reply.Reply.TheVariants as replies
@@ -44,7 +44,7 @@ use Rattle.script_runner.specs.declared.request.Request.{Request}
 use Rattle.script_runner.specs.declared.request.Request.TheVariants as requests
 use Rattle.script_runner.specs.declared.running.Running.{Running}
 use Rattle.script_runner.specs.DiskRun.{stack_answering, DiskRun, Starts}
-use Rattle.script_runner.specs.Lines.{Answering, Asks, EndsRequest, RecordsEnd, TakesStep, reply_of}
+use Rattle.script_runner.specs.Lines.{Answering, BecomesRequest, EndsRequest, RecordsEnd, TakesStep, reply_of}
 use Rattle.script_runner.specs.Runs.{RunsLines}
 use Rattle.script_runner.specs.Submissions.{bio_of, fits_device}
 
@@ -91,7 +91,7 @@ fits_larger bytes (submits.Discard first count) few many more passes =
 
 request_fits : {L : Type 0} {l : Ghosts L} (bytes sectors : ℕ) (submission : Submission)
     (request : Request) (old new : Recorder L l)
-    → submission_answer bytes sectors submission ≡ Ok tt → Asks (bio_of submission) request old new
+    → submission_answer bytes sectors submission ≡ Ok tt → BecomesRequest (bio_of submission) request old new
     → fits_device sectors request ≡ true
 request_fits bytes sectors submission (requests.Asked bio id) old new passes asks =
     grind (arith, asks.0, bio_passes bytes sectors submission passes)
@@ -99,7 +99,7 @@ request_fits bytes sectors submission requests.NotAsked old new passes asks = re
 
 pub pushed_fit : {L : Type 0} {l : Ghosts L} (bytes sectors : ℕ) (submission : Submission)
     (request : Request) (old new : Recorder L l) (before after : List Request) (room : Bool)
-    → submission_answer bytes sectors submission ≡ Ok tt → Asks (bio_of submission) request old new
+    → submission_answer bytes sectors submission ≡ Ok tt → BecomesRequest (bio_of submission) request old new
     → after ≡ (if room then before ++ request ∷ [] else before)
     → IsTrue (list_all (fits_device sectors) before) → IsTrue (list_all (fits_device sectors) after)
 pushed_fit bytes sectors submission request old new before after false passes asks is fit =
@@ -150,7 +150,7 @@ stops_within sectors cause old new stops within =
     rw stops.events (stopped_within sectors (core_of old) cause within)
 
 submitted_within : {L : Type 0} {l : Ghosts L} (sectors : ℕ) (bio : Bio) (reply : Reply)
-    (old new : Recorder L l) → Submits bio reply old new
+    (old new : Recorder L l) → SubmitsRequest bio reply old new
     → is_ok (check_answer bio sectors) ≡ true → AreWithin sectors (core_of old).events
     → AreWithin sectors (core_of new).events
 submitted_within {L} {l} sectors bio reply old new submits passes within =
@@ -248,7 +248,7 @@ drained_within {L} {l} sectors answer old new drains within = by_end old.end ref
         same_within sectors (core_of old) (core_of new) (drains.ended cause is).1.core within
 
 asked_within : {L : Type 0} {l : Ghosts L} (sectors : ℕ) (bio : Bio) (request : Request)
-    (old new : Recorder L l) → Asks bio request old new
+    (old new : Recorder L l) → BecomesRequest bio request old new
     → is_ok (check_answer bio sectors) ≡ true → AreWithin sectors (core_of old).events
     → AreWithin sectors (core_of new).events
 asked_within {L} {l} sectors bio (requests.Asked kept id) old new asks passes within =
@@ -292,7 +292,7 @@ step_within {D} {L} {d} {l} m sectors steps.Turn text old new does within =
     turned_within {l = l} sectors does.turn old.recorder new.recorder does.turns within
 step_within {D} {L} {d} {l} m sectors (steps.Mark mark) text old new does within =
     marked_within {l = l} sectors mark does.reply old.recorder new.recorder does.marks within
-step_within {D} {L} {d} {l} m sectors (steps.At moment) text old new does within =
+step_within {D} {L} {d} {l} m sectors (steps.At time) text old new does within =
     same_within sectors (core_of old.recorder) (core_of new.recorder) does.core within
 step_within {D} {L} {d} {l} m sectors
     (steps.Message disks.Data layer asked) text old new does within =

@@ -30,7 +30,7 @@ use Rattle.bio.specs.Requests.{range_answer}
 use Rattle.blockdev.specs.View.{IsByteRange}
 use Rattle.blockdev.specs.declared.device.BlockDev.{Ghosts}
 use Rattle.pending.specs.CoreState.{records}
-use Rattle.recorder.specs.Calls.{Closes, Marks, Submits, core_of, recorder_view}
+use Rattle.recorder.specs.Calls.{Closes, Marks, SubmitsRequest, core_of, recorder_view}
 use Rattle.recorder.specs.declared.recorder.Recorder.{Recorder}
 use Rattle.recorder.specs.declared.reply.Reply.{Reply}
 use Rattle.recorder.specs.declared.reply.Reply.TheVariants as replies
@@ -46,14 +46,14 @@ use Rattle.dmlw_script.specs.Plans.{IsName, time_at_step}
 use Rattle.script_runner.specs.CallLaws.{appends_twice}
 use Rattle.script_runner.specs.declared.request.Request.{Request}
 use Rattle.script_runner.specs.declared.running.Running.{Running}
-use Rattle.script_runner.specs.inside.{mark_outcome}
-use Rattle.script_runner.specs.Lines.{Answering, PrintsLine, PrintsMark, TakesStep, first_bytes}
+use Rattle.script_runner.specs.inside.{mark_printed}
+use Rattle.script_runner.specs.Lines.{Answering, PrintsLine, PrintsMark, TakesStep, printed_bytes}
 use Rattle.script_runner.specs.Lines.{outcome_line, outcome_word, read_line}
 
 pub refused-only : {L : Type 0} {g : Ghosts L} (bio : Bio) (reply : Reply) (old new : Recorder L g)
-    → Submits bio reply old new
+    → SubmitsRequest bio reply old new
     → ((id : ℕ) → reply ≡ replies.Tracked id → ⊥) → (reply ≡ replies.Passed → ⊥)
-    → Submits bio (replies.Refused refusals.Memory) old new
+    → SubmitsRequest bio (replies.Refused refusals.Memory) old new
 refused-only bio reply old new submits tracked passed =
     elim (bool_cases (records (core_of old) bio)) [
       | inl recorded ↦ elim (submits.recorded recorded) [
@@ -83,7 +83,7 @@ line_is_text (byte ∷ text) plain =
 
 pub mark_prints : {L : Type 0} {g : Ghosts L} (text : List ℕ) (reply : Reply)
     (old new : Recorder L g) → Marks text reply old new → is_line_text text ≡ true
-    → PrintsMark reply (mark_outcome reply)
+    → PrintsMark reply (mark_printed reply)
 mark_prints text reply old new marks plain = elim (bool_cases (is_recording (core_of old).events)) [
   | inl going ↦ elim (marks.recorded heard going) [
     | inl queued ↦ rw queued.0 refl
@@ -147,11 +147,11 @@ pub step_runs : {D L : Type 0} {d : Ghosts D} {l : Ghosts L} (m : Answering D L)
     (names : List ScriptId) (command : Command) (step : Step) (before after : Option (List ℕ))
     (text : List ℕ)
     (old new : Running D L d l) → command ≡ commands.Step step → TakesStep m step text old new
-    → new.moment ≡ time_at_step old.moment step
-    → new.recorder.store.moment ≡ time_at_step old.recorder.store.moment step
+    → new.time ≡ time_at_step old.time step
+    → new.recorder.store.time ≡ time_at_step old.recorder.store.time step
     → RecorderFrame (recorder_view old.recorder) (recorder_view new.recorder)
     → Appends before after text → PrintsLine m names command before after old new
-step_runs m names command step before after text old new is takes moment log_moment goes printed =
+step_runs m names command step before after text old new is takes time log_time goes printed =
     grind arith
 
 pub appends_none : (known : Option (List ℕ)) → Appends known known []
@@ -222,14 +222,14 @@ filled new old n same size =
     ∙ take_all n new (omega arith)
 
 first_bytes-more : (n : ℕ) (bytes : List ℕ)
-    → first_bytes (n + 1) bytes
-    ≡ first_bytes n bytes ++ byte_text (slice_index_or bytes (n * 512) 0)
+    → printed_bytes (n + 1) bytes
+    ≡ printed_bytes n bytes ++ byte_text (slice_index_or bytes (n * 512) 0)
 first_bytes-more n bytes = rw (add-one n)
 
 pub byte_printed : (n : ℕ) (bytes : List ℕ) (byte : ℕ) (digits : List ℕ)
-    (start now new : Option (List ℕ)) → Appends start now (first_bytes n bytes)
+    (start now new : Option (List ℕ)) → Appends start now (printed_bytes n bytes)
     → byte ≡ slice_index_or bytes (n * 512) 0 → digits ≡ byte_text byte → Appends now new digits
-    → Appends start new (first_bytes (n + 1) bytes)
+    → Appends start new (printed_bytes (n + 1) bytes)
 byte_printed n bytes byte digits start now new before here is more =
     grind (arith, first_bytes-more, appends_twice)
 
@@ -258,7 +258,7 @@ pub read_printed : {V : Type 0} (items : V → List ℕ) (first count : ℕ) (by
     → shown ≡ items read
     → Appends before begun (codes "read "
     ++ (decimal first ++ (codes "+" ++ (decimal count ++ codes " ok "))))
-    → Appends begun told (first_bytes count shown)
+    → Appends begun told (printed_bytes count shown)
     → Appends told after (codes "\n")
     → Appends before after (read_line first count (option_map items bytes))
 read_printed {V} items first count bytes read shown before begun told after some same head middle
@@ -266,8 +266,8 @@ read_printed {V} items first count bytes read shown before begun told after some
     grind (
       arith,
       in_parts (codes "read ") (decimal first) (codes "+") (decimal count) (codes " ")
-          (codes "ok ") (first_bytes count (items read)) (codes "\n"),
+          (codes "ok ") (printed_bytes count (items read)) (codes "\n"),
       appends_twice before told after _
-          (codes "\n") (appends_twice before begun told _ (first_bytes count (items read)) head (rw (←
+          (codes "\n") (appends_twice before begun told _ (printed_bytes count (items read)) head (rw (←
           same) middle)) end,
     )

@@ -1,5 +1,5 @@
 -- Proves what a script's lines do to the log, and what happens to the requests that they submit.
--- After a close, the store has placed the whole log, unless logging ended (`IsWritten`).
+-- After a close, the store has placed the whole log, unless logging ended (`LogIsWritten`).
 use Rattle.std.proofs.Common.{append_assoc, None, inl, ◌∙◌, ◌⊎◌, ap, refl, length, ℕ, Bool, true}
 use Rattle.std.proofs.Common.{false, not, Option, Some, arith, inr, subst, sym, List, [], ◌∷◌}
 use Rattle.std.proofs.Common.{◌++◌, Result, Ok, Err, ◌≡◌}
@@ -24,7 +24,7 @@ use Rattle.log_format.specs.declared.entry.Entry.{Entry}
 use Rattle.log_store.specs.Calls.{Same}
 use Rattle.pending.specs.CoreState.{CoreState, added_to, records}
 use Rattle.pending.specs.GrowthLaws.{none-grown}
-use Rattle.recorder.specs.Calls.{Completes, Drains, IsUnchanged, Marks, Submits, Turns, core_of}
+use Rattle.recorder.specs.Calls.{Completes, Drains, IsUnchanged, Marks, SubmitsRequest, Turns, core_of}
 use Rattle.recorder.specs.Calls.{recorder_view}
 use Rattle.recorder.specs.declared.recorder.Recorder.{Recorder}
 use Rattle.recorder.specs.declared.reply.Reply.{Reply}
@@ -32,7 +32,7 @@ use Rattle.recorder.specs.declared.reply.Reply.TheVariants as replies
 use Rattle.recorder.specs.declared.reply.Turn.{Turn}
 use Rattle.recorder.specs.declared.reply.Turn.TheVariants as turns
 use Rattle.recorder.specs.Growth.{RecorderFrame}
-use Rattle.recorder.specs.RecorderView.{EventsGrow, log_of}
+use Rattle.recorder.specs.RecorderView.{EventsGrow, listed_entries}
 use Rattle.dmlw_script.specs.declared.command.Command.{Command}
 use Rattle.dmlw_script.specs.declared.command.Command.TheVariants as commands
 use Rattle.dmlw_script.specs.declared.command.DiskName.TheVariants as disks
@@ -44,18 +44,18 @@ use Rattle.dmlw_script.specs.Plans.{name_at}
 use Rattle.script_runner.specs.declared.request.Request.{Request}
 use Rattle.script_runner.specs.declared.request.Request.TheVariants as requests
 use Rattle.script_runner.specs.declared.running.Running.{Running}
-use Rattle.script_runner.specs.Lines.{Answering, Asks, EndsRequest, RecordsEnd, RunsLine, TakesStep}
+use Rattle.script_runner.specs.Lines.{Answering, BecomesRequest, EndsRequest, RecordsEnd, RunsLine, TakesStep}
 use Rattle.script_runner.specs.Lines.{reply_of}
-use Rattle.script_runner.specs.Runs.{IsWritten, RunsLines, TrackedAreRecorded, IsRequestOf}
+use Rattle.script_runner.specs.Runs.{LogIsWritten, RunsLines, TrackedAreRecorded, IsRequestOf}
 use Rattle.script_runner.specs.Runs.{submissions_of}
 use Rattle.script_runner.specs.Submissions.{bio_of}
 
-pub kept_unchanged : {L : Type 0} {l : Ghosts L} (old new : Recorder L l) → IsWritten old
-    → IsUnchanged old new → IsWritten new
+pub kept_unchanged : {L : Type 0} {l : Ghosts L} (old new : Recorder L l) → LogIsWritten old
+    → IsUnchanged old new → LogIsWritten new
 kept_unchanged old new written same = grind (arith, length)
 
 pub kept_recording : {L : Type 0} {l : Ghosts L} (new : Recorder L l)
-    → has_no_close (core_of new).events ≡ true → IsWritten new
+    → has_no_close (core_of new).events ≡ true → LogIsWritten new
 kept_recording new recording = λ closed on. absurd (let both = sym recording ∙ closed in cc)
 
 unclosed : (core grown : CoreState) (event : CoreEvent) → grown ≡ added_to core event
@@ -64,11 +64,11 @@ unclosed : (core grown : CoreState) (event : CoreEvent) → grown ≡ added_to c
 unclosed core grown event is other recording = grind (arith, none-grown, not)
 
 kept_ended : {L : Type 0} {l : Ghosts L} (new : Recorder L l) (cause : End) → new.end ≡ Some cause
-    → IsWritten new
+    → LogIsWritten new
 kept_ended new cause ended = λ closed on. absurd (let both = sym ended ∙ on in cc)
 
 pub kept_submit : {L : Type 0} {l : Ghosts L} (bio : Bio) (reply : Reply) (old new : Recorder L l)
-    → Submits bio reply old new → IsWritten old → IsWritten new
+    → SubmitsRequest bio reply old new → LogIsWritten old → LogIsWritten new
 kept_submit {L} {l} bio reply old new submits written =
     elim (bool_cases (records (core_of old) bio)) [
       | inl recorded ↦ elim (submits.recorded recorded) [
@@ -86,7 +86,7 @@ kept_submit {L} {l} bio reply old new submits written =
     ]
 
 pub kept_complete : {L : Type 0} {l : Ghosts L} (id : ℕ) (ok : Bool) (reply : Reply)
-    (old new : Recorder L l) → Completes id ok reply old new → IsWritten old → IsWritten new
+    (old new : Recorder L l) → Completes id ok reply old new → LogIsWritten old → LogIsWritten new
 kept_complete {L} {l} id ok reply old new completes written =
     elim (bool_cases (is_open_at (core_of old).events id)) [
       | inl opened ↦
@@ -111,7 +111,7 @@ kept_complete {L} {l} id ok reply old new completes written =
     ]
 
 pub kept_mark : {L : Type 0} {l : Ghosts L} (text : List ℕ) (reply : Reply) (old new : Recorder L l)
-    → Marks text reply old new → IsWritten old → IsWritten new
+    → Marks text reply old new → LogIsWritten old → LogIsWritten new
 kept_mark {L} {l} text reply old new marks written = elim (bool_cases (is_text text)) [
   | inl heard ↦ elim (bool_cases (is_recording (core_of old).events)) [
     | inl going ↦ elim (marks.recorded heard going) [
@@ -138,19 +138,19 @@ none-behind : (log : List Entry) (n : ℕ) (e : Entry) → n ≡ length log → 
 none-behind log n e all found = let within = slice_get_within log n e found in omega arith
 
 pub kept_turn : {L : Type 0} {l : Ghosts L} (turn : Turn) (old new : Recorder L l)
-    → Turns turn old new → IsWritten old → IsWritten new
+    → Turns turn old new → LogIsWritten old → LogIsWritten new
 kept_turn {L} {l} turn old new turned written = by_end old.end refl
   where
     placing : (index : ℕ) (e : Entry) → old.end ≡ None → (core_of new).events ≡ (core_of old).events
         → index ≡ old.store.placed
-        → slice_get (log_of (core_of old)) index ≡ Some e → IsWritten new
+        → slice_get (listed_entries (core_of old)) index ≡ Some e → LogIsWritten new
     placing index e on same number entry = elim (bool_cases (has_no_close (core_of old).events)) [
       | inl recording ↦ kept_recording {l = l} new (ap has_no_close same ∙ recording)
       | inr closed ↦
-          absurd (none-behind (log_of (core_of old)) index e (number ∙ written closed on) entry)
+          absurd (none-behind (listed_entries (core_of old)) index e (number ∙ written closed on) entry)
     ]
 
-    by_turn : (turn : Turn) → old.end ≡ None → Turns turn old new → IsWritten new
+    by_turn : (turn : Turn) → old.end ≡ None → Turns turn old new → LogIsWritten new
     by_turn turns.Nothing on did = kept_unchanged {l = l} old new written (did.logging on).1
     by_turn (turns.Placed index) on did =
         let placed = did.logging on in
@@ -160,20 +160,20 @@ kept_turn {L} {l} turn old new turned written = by_end old.end refl
         placing index placed.2.0 on placed.0.events placed.2.2.number placed.2.2.entry
     by_turn (turns.Ended cause) on did = kept_ended {l = l} new cause (did.logging on).stops.end
 
-    by_end : (end : Option End) → old.end ≡ end → IsWritten new
+    by_end : (end : Option End) → old.end ≡ end → LogIsWritten new
     by_end None is = by_turn turn is turned
     by_end (Some cause) is = kept_unchanged {l = l} old new written (turned.ended cause is).1
 
 pub kept_close : {L : Type 0} {l : Ghosts L} (answer : Result Unit End) (closed new : Recorder L l)
-    → Drains answer closed new → IsWritten new
+    → Drains answer closed new → LogIsWritten new
 kept_close {L} {l} answer closed new drains = by_end closed.end refl
   where
     by_answer : (answer : Result Unit End) → closed.end ≡ None → Drains answer closed new
-        → IsWritten new
+        → LogIsWritten new
     by_answer (Ok done) on drained = λ is_closed goes. (drained.logging on).1
     by_answer (Err cause) on drained = kept_ended {l = l} new cause (drained.logging on).end
 
-    by_end : (end : Option End) → closed.end ≡ end → IsWritten new
+    by_end : (end : Option End) → closed.end ≡ end → LogIsWritten new
     by_end None is = by_answer answer is drains
     by_end (Some cause) is = kept_ended {l = l} new cause ((drains.ended cause is).1.end ∙ is)
 
@@ -199,7 +199,7 @@ lines_go none twice m names (command ∷ body) text old new ran =
     (lines_go none twice m names body ran.2 ran.0 new ran.5)
 
 asked_written : {L : Type 0} {l : Ghosts L} (bio : Bio) (request : Request) (old new : Recorder L l)
-    → Asks bio request old new → IsWritten old → IsWritten new
+    → BecomesRequest bio request old new → LogIsWritten old → LogIsWritten new
 asked_written {L} {l} bio (requests.Asked kept id) old new asks written =
     kept_submit {l = l} bio (reply_of id) old new asks.1 written
 asked_written {L} {l} bio requests.NotAsked old new asks written = elim asks [
@@ -208,7 +208,7 @@ asked_written {L} {l} bio requests.NotAsked old new asks written = elim asks [
 ]
 
 ended_written : {L : Type 0} {l : Ghosts L} (id : Option ℕ) (ok : Bool) (old new : Recorder L l)
-    → RecordsEnd id ok old new → IsWritten old → IsWritten new
+    → RecordsEnd id ok old new → LogIsWritten old → LogIsWritten new
 ended_written {L} {l} (Some id) ok old new hears written =
     kept_complete {l = l} id ok hears.0 old new hears.1 written
 ended_written {L} {l} None ok old new hears written =
@@ -216,17 +216,17 @@ ended_written {L} {l} None ok old new hears written =
 
 found_written : {D L : Type 0} {d : Ghosts D} {l : Ghosts L} (found : Option Request)
     (name : ScriptId) (text : List ℕ) (old new : Running D L d l)
-    → EndsRequest found name text old new → IsWritten old.recorder → IsWritten new.recorder
+    → EndsRequest found name text old new → LogIsWritten old.recorder → LogIsWritten new.recorder
 found_written {D} {L} {d} {l} None name text old new does written = absurd does
 found_written {D} {L} {d} {l} (Some requests.NotAsked) name text old new does written =
     rw does.1 written
 found_written {D} {L} {d} {l} (Some (requests.Asked bio id)) name text old new does written =
     ended_written {l = l} id (is_ok does.answer) old.recorder new.recorder does.hears written
 
-moment_written : {L : Type 0} {l : Ghosts L} (old new : Recorder L l) → core_of new ≡ core_of old
+time_written : {L : Type 0} {l : Ghosts L} (old new : Recorder L l) → core_of new ≡ core_of old
     → new.end ≡ old.end
-    → Same (recorder_view old).store (recorder_view new).store → IsWritten old → IsWritten new
-moment_written {L} {l} old new core end same written = λ closed on.
+    → Same (recorder_view old).store (recorder_view new).store → LogIsWritten old → LogIsWritten new
+time_written {L} {l} old new core end same written = λ closed on.
     let placed =
     written (sym (grind (arith, core)) ∙ closed)
     (sym end ∙ on) in
@@ -234,7 +234,7 @@ moment_written {L} {l} old new core end same written = λ closed on.
 
 line_written : {D L : Type 0} {d : Ghosts D} {l : Ghosts L} (m : Answering D L)
     (names : List ScriptId) (command : Command) (text : List ℕ) (old new : Running D L d l)
-    → RunsLine m names command text old new → IsWritten old.recorder → IsWritten new.recorder
+    → RunsLine m names command text old new → LogIsWritten old.recorder → LogIsWritten new.recorder
 line_written {D} {L} {d} {l} m names (commands.Submit submission) text old new line written =
     asked_written {l = l} (bio_of submission) line.does.request old.recorder new.recorder
     line.does.asks written
@@ -249,18 +249,18 @@ line_written {D} {L} {d} {l} m names (commands.Step steps.Turn) text old new lin
     kept_turn {l = l} line.does.turn old.recorder new.recorder line.does.turns written
 line_written {D} {L} {d} {l} m names (commands.Step (steps.Mark mark)) text old new line written =
     kept_mark {l = l} mark line.does.reply old.recorder new.recorder line.does.marks written
-line_written {D} {L} {d} {l} m names (commands.Step (steps.At moment)) text old new line written =
-    grind (arith, moment_written)
+line_written {D} {L} {d} {l} m names (commands.Step (steps.At time)) text old new line written =
+    grind (arith, time_written)
 line_written {D} {L} {d} {l} m names
     (commands.Step (steps.Message disks.Data layer asked)) text old new line written =
     rw line.does.log written
 line_written {D} {L} {d} {l} m names
     (commands.Step (steps.Message disks.Log layer asked)) text old new line written =
-    grind (arith, moment_written)
+    grind (arith, time_written)
 
 pub lines_written : {D L : Type 0} {d : Ghosts D} {l : Ghosts L} (m : Answering D L)
     (names : List ScriptId) (body : List Command) (text : List ℕ) (old new : Running D L d l)
-    → RunsLines m names body text old new → IsWritten old.recorder → IsWritten new.recorder
+    → RunsLines m names body text old new → LogIsWritten old.recorder → LogIsWritten new.recorder
 lines_written {D} {L} {d} {l} m names [] text old new ran written =
     rw ran.1 written
 lines_written {D} {L} {d} {l} m names (command ∷ body) text old new ran written =
@@ -268,7 +268,7 @@ lines_written {D} {L} {d} {l} m names (command ∷ body) text old new ran writte
     (line_written {d = d} {l = l} m names command ran.1 old ran.0 ran.4 written)
 
 asks_stands : {L : Type 0} {l : Ghosts L} (submission : Submission) (request : Request)
-    (old new : Recorder L l) → Asks (bio_of submission) request old new
+    (old new : Recorder L l) → BecomesRequest (bio_of submission) request old new
     → IsRequestOf submission request
 asks_stands submission (requests.Asked bio id) old new asks = asks.0
 asks_stands submission requests.NotAsked old new asks = tt
@@ -287,7 +287,7 @@ step_keeps m steps.Close text old new does = does.keeps.kept
 step_keeps m (steps.Read first count) text old new does = does.kept
 step_keeps m steps.Turn text old new does = does.keeps.kept
 step_keeps m (steps.Mark mark) text old new does = does.kept
-step_keeps m (steps.At moment) text old new does = does.keeps.kept
+step_keeps m (steps.At time) text old new does = does.keeps.kept
 step_keeps m (steps.Message disks.Data layer asked) text old new does = does.kept
 step_keeps m (steps.Message disks.Log layer asked) text old new does = does.keeps.kept
 
@@ -362,7 +362,7 @@ queued_stands {L} {l} text reply id old new marks queued = elim (bool_cases (is_
     not_passed m is = cc
 
 tracked_stands : {L : Type 0} {l : Ghosts L} (bio : Bio) (id : ℕ) (old new : Recorder L l)
-    → Submits bio (reply_of (Some id)) old new
+    → SubmitsRequest bio (reply_of (Some id)) old new
     → slice_get (core_of new).events id ≡ Some (events.Submit bio)
 tracked_stands {L} {l} bio id old new submits = elim (bool_cases (records (core_of old) bio)) [
   | inl recorded ↦ elim (submits.recorded recorded) [
@@ -397,7 +397,7 @@ last_case items last request place found =
     some_same is = cc
 
 asked_stands : {L : Type 0} {l : Ghosts L} (bio asked : Bio) (request : Request) (id : ℕ)
-    (old new : Recorder L l) → Asks asked request old new
+    (old new : Recorder L l) → BecomesRequest asked request old new
     → request ≡ requests.Asked bio (Some id)
     → slice_get (core_of new).events id ≡ Some (events.Submit bio)
 asked_stands {L} {l} bio asked (requests.Asked kept (Some other)) id old new asks is =

@@ -1,4 +1,4 @@
--- Proves what the lines of a script do one after another, as a `Chain` of steps.
+-- Proves what the lines of a script do one after another, as a `StepsLead` of steps.
 use Rattle.std.proofs.Common.{drop, length, slice_index_or, take, add-one, ap, refl, arith, sym}
 use Rattle.std.proofs.Common.{subst, ◌≡◌, ◌∙◌, ℕ, suc, ◌+◌, ◌<◌, Option, inl, inr, List, [], ◌∷◌}
 use Rattle.std.proofs.Common.{◌++◌, append_assoc}
@@ -22,13 +22,13 @@ use Rattle.script_runner.specs.CallLaws.{appends_kept, appends_twice}
 use Rattle.script_runner.specs.declared.running.Running.{Running}
 use Rattle.script_runner.specs.declared.step_error.StepError.TheVariants.{AtLine, Whole}
 use Rattle.script_runner.specs.Lines.{Answering, EndsSubmitted, FitsDevice, HasScriptText}
-use Rattle.script_runner.specs.Lines.{PrintsLine, RunsLine, StopsLine, count_of}
-use Rattle.script_runner.specs.Runs.{Chain, EndsRun, PrintsLines, close, file, message}
+use Rattle.script_runner.specs.Lines.{PrintsLine, RunsLine, StopsLine, submission_count}
+use Rattle.script_runner.specs.Runs.{StepsLead, EndsRun, PrintsLines, close, file, message}
 
 pub chain_snoc : {C S : Type 0} (Step : C → List ℕ → S → S → Type 0) (cs : List C) (c : C)
     (text more : List ℕ) (old mid new : S)
-    → Chain Step cs text old mid → Step c more mid new
-    → Chain Step (cs ++ c ∷ []) (text ++ more) old new
+    → StepsLead Step cs text old mid → Step c more mid new
+    → StepsLead Step (cs ++ c ∷ []) (text ++ more) old new
 chain_snoc {S = S} Step [] c text more old mid new before step = (
   new,
   more,
@@ -104,12 +104,12 @@ next_submitted bytes sectors before (commands.Complete request) comes = comes.0
 next_submitted bytes sectors before (commands.Step step) comes = tt
 
 submissions_cons : (command : Command) (body : List Command)
-    → submissions (command ∷ body) ≡ count_of command + submissions body
+    → submissions (command ∷ body) ≡ submission_count command + submissions body
 submissions_cons command body =
-    sum_by-append count_of (command ∷ []) body ∙ ap (λ (n : ℕ). n + submissions body) (omega arith)
+    sum_by-append submission_count (command ∷ []) body ∙ ap (λ (n : ℕ). n + submissions body) (omega arith)
 
 submissions_push : (front : List Command) (command : Command)
-    → submissions (front ++ command ∷ []) ≡ submissions front + count_of command
+    → submissions (front ++ command ∷ []) ≡ submissions front + submission_count command
 submissions_push front command = grind (arith, sum_by-append)
 
 pub next_named : (plan : ScriptValue) (place : ℕ) (command : Command) → IsPlan plan
@@ -118,7 +118,7 @@ pub next_named : (plan : ScriptValue) (place : ℕ) (command : Command) → IsPl
 next_named plan place (commands.Submit submission) is next =
     grind (
       arith,
-      sum_by-append count_of (take place plan.commands) (commands.Submit submission ∷
+      sum_by-append submission_count (take place plan.commands) (commands.Submit submission ∷
           next.rest),
       submissions_cons (commands.Submit submission) next.rest,
     )
@@ -162,15 +162,15 @@ lines_more_of m plan items names place other before mid after start now new same
     (rw (← named) line))
 
 pub count_more : (front : List Command) (command : Command) (old new : ℕ) → old ≡ submissions front
-    → new ≡ old + count_of command
+    → new ≡ old + submission_count command
     → new ≡ submissions (front ++ command ∷ [])
 count_more front command old new counted more =
-    more ∙ ap (λ (n : ℕ). n + count_of command) counted ∙ sym (submissions_push front command)
+    more ∙ ap (λ (n : ℕ). n + submission_count command) counted ∙ sym (submissions_push front command)
 
 pub count_more_of : (plan : ScriptValue) (items : List Command) (place old new : ℕ)
     (other : Command) → items ≡ plan.commands → place < length items
     → old ≡ submissions (take place plan.commands)
-    → new ≡ old + count_of (slice_index_or items place other)
+    → new ≡ old + submission_count (slice_index_or items place other)
     → new ≡ submissions (take (place + 1) plan.commands)
 count_more_of plan items place old new other same within counted more =
     one_more (λ (body : List Command). new

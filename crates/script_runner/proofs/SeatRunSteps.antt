@@ -7,7 +7,7 @@ use Rattle.bio.specs.declared.outcome.Status.{Status}
 use Rattle.bio.specs.declared.request.SectorSize.{SectorSize}
 use Rattle.bio.specs.declared.request.SectorSize.TheVariants as sizes
 use Rattle.bio.specs.Requests.{bytes_of}
-use Rattle.blockdev.specs.View.{Place}
+use Rattle.blockdev.specs.View.{Origin}
 use Rattle.dmlw_script.specs.Plans.{top_of, Disk}
 use Rattle.dmlw_script.specs.RunPlans.{RunPlan}
 use Rattle.layer_table.specs.declared.stack.Stack.{Stack}
@@ -32,10 +32,10 @@ use Rattle.sector_disk.specs.CandidateLaws.{content_whole, disk_lawful}
 use Rattle.bio.specs.Content.{AgreeBelow, Content, gather, sector_of}
 use Rattle.bio.specs.ContentLaws.{length-gather, sector_of-gather}
 use Rattle.script_runner.specs.declared.tally.Tally.{Tally}
-use Rattle.script_runner.specs.inside.{AreNewPlayers, FitsRecorder, HavePlayed, IsUnplayed, Player}
+use Rattle.script_runner.specs.inside.{AreNewPlayers, FitsRecorder, HavePlayed, IsUnplayed, PlayerView}
 use Rattle.script_runner.specs.inside.{new_player}
-use Rattle.script_runner.specs.SeatRuns.{FailsRun, HasRun, HaveRun, IsClosed, IsForeignClose}
-use Rattle.script_runner.specs.SeatRuns.{IsOpenRun, IsRun, IsUnclosed, busy, foreign, joined}
+use Rattle.script_runner.specs.SeatRuns.{FailsRun, HasRun, HaveRun, ClosesRecorder, IsForeignClose}
+use Rattle.script_runner.specs.SeatRuns.{IsOpenRun, RunsSeats, IsUnclosed, busy, foreign, joined}
 use Rattle.script_runner.specs.SeatRuns.{memory, thread}
 use Rattle.script_runner.proofs.Seats.{take_next}
 use Rattle.shared.specs.Close.{LeavesLog}
@@ -86,7 +86,7 @@ module _ {A : Type 0} where
       ap (λ ys. ys ++ f x ∷ []) so ∙ sym (map_push f (take k xs) x)
       ∙ sym (ap (map f) (ap (λ n. take n xs) is ∙ take_next xs k x there))
 
-pub players_push : (many next : ℕ) (players : List Player) (player : Player) → next ≡ suc many
+pub players_push : (many next : ℕ) (players : List PlayerView) (player : PlayerView) → next ≡ suc many
     → AreNewPlayers many players → player ≡ new_player many
     → AreNewPlayers next (players ++ player ∷ [])
 players_push many next players player is new here = record {
@@ -106,30 +106,30 @@ joined_push [] receipts = append-nil receipts
 joined_push (first ∷ lists) receipts =
     grind (arith, joined_push lists receipts, sym (append_assoc first (joined lists) receipts))
 
-pub joined_next : (players : List Player) (player : Player) (made : List Receipt)
-    → made ≡ joined (map (λ (p : Player). p.receipts) players)
-    → made ++ player.receipts ≡ joined (map (λ (p : Player). p.receipts) (players ++ player ∷ []))
+pub joined_next : (players : List PlayerView) (player : PlayerView) (made : List Receipt)
+    → made ≡ joined (map (λ (p : PlayerView). p.receipts) players)
+    → made ++ player.receipts ≡ joined (map (λ (p : PlayerView). p.receipts) (players ++ player ∷ []))
 joined_next players player made so = grind (arith, joined_push, map, map_push)
 
-pub mapped_next : {B : Type 0} (of : Player → B) (players : List Player) (player : Player)
+pub mapped_next : {B : Type 0} (of : PlayerView → B) (players : List PlayerView) (player : PlayerView)
     (made next : List B) (value : B) → next ≡ made ++ value ∷ []
     → made ≡ map of players → value ≡ of player → next ≡ map of (players ++ player ∷ [])
 mapped_next {B} of players player made next value pushed so has =
     grind (arith, pushed, so, has, sym (map_push of players player))
 
-pub seats_long : (players : List Player) (seats : List Part) (many : ℕ) → length players ≡ many
-    → seats ≡ map (λ (p : Player). p.part) players → length seats ≡ many
+pub seats_long : (players : List PlayerView) (seats : List Part) (many : ℕ) → length players ≡ many
+    → seats ≡ map (λ (p : PlayerView). p.part) players → length seats ≡ many
 seats_long players seats many count is =
-    ap length is ∙ map_long (λ (p : Player). p.part) players ∙ count
+    ap length is ∙ map_long (λ (p : PlayerView). p.part) players ∙ count
 
 pub top_size : (disk : Disk) (stack : Stack) → IsStackOf disk stack
     → (stack_shown stack).size ≡ top_of disk
 top_size disk stack is = grind (arith, is.over.size, is.blank.size)
 
-stack_place : (disk : Disk) (stack : Stack) → IsStackOf disk stack
-    → (stack_shown stack).place ≡ record { origin = top_origin 0 disk.layers; disk = disk.sectors }
-stack_place disk stack is =
-    grind (arith, is.over.place, is.blank.size)
+stack_origin : (disk : Disk) (stack : Stack) → IsStackOf disk stack
+    → (stack_shown stack).origin ≡ record { sector = top_origin 0 disk.layers; disk = disk.sectors }
+stack_origin disk stack is =
+    grind (arith, is.over.origin, is.blank.size)
 
 one_fits : (size : SectorSize) (sectors : ℕ) → bytes_of size / 512 ≤ sectors
     → 0 < log_sectors (bytes_of size) sectors
@@ -140,17 +140,17 @@ one_fits sizes.B4096 sectors room = omega (arith, room)
 image_log : (size : SectorSize) (disk : Disk) (device : Stack) (seen : Content) (image : List ℕ)
     → bytes_of size / 512 ≤ top_of disk
     → (stack_shown device).size ≡ top_of disk
-    → (stack_shown device).place ≡ record { origin = top_origin 0 disk.layers; disk = disk.sectors }
+    → (stack_shown device).origin ≡ record { sector = top_origin 0 disk.layers; disk = disk.sectors }
     → AgreeBelow disk.sectors (shown_of (disk_of device)).content (sector_of image)
     → ((sector : ℕ) → seen sector
-    ≡ (shown_of (disk_of device)).content ((stack_shown device).place.origin + sector))
+    ≡ (shown_of (disk_of device)).content ((stack_shown device).origin.sector + sector))
     → (es : List Entry) → IsLogOf (stack_shown device).size seen (bytes_of size) es
     → IsLogOf (top_of disk) (seen_on disk image) (bytes_of size) es
 image_log size disk device seen image room top place agree looks es log =
     let part = part_of_disk device in
     let within = part.within in
     let content = (shown_of (disk_of device)).content in
-    let origin : (stack_shown device).place.origin ≡ top_origin 0 disk.layers =
+    let sector_is : (stack_shown device).origin.sector ≡ top_origin 0 disk.layers =
     grind (arith, place) in
     let sectors : (shown_of (disk_of device)).size ≡ disk.sectors =
     grind (arith, sym part.disk, place) in
@@ -159,7 +159,7 @@ image_log size disk device seen image room top place agree looks es log =
     subst (λ (n : ℕ). IsLogOf n (seen_on disk image) (bytes_of size) es) top
     (log_within (stack_shown device).size seen (seen_on disk image) (bytes_of size) es some
     (λ sector h. agree (top_origin 0 disk.layers + sector) (omega arith)
-    ∙ ap (λ (n : ℕ). content (n + sector)) (sym origin) ∙ sym (looks sector)) log)
+    ∙ ap (λ (n : ℕ). content (n + sector)) (sym sector_is) ∙ sym (looks sector)) log)
 
 image_long : (disk : SectorDisk) (image : List ℕ) (sectors : ℕ)
     → image ≡ gather (shown_of disk).content 0 (shown_of disk).size → (shown_of disk).size ≡ sectors
@@ -188,7 +188,7 @@ disk_size : (plan : RunPlan) (log device : Stack) (image : List ℕ)
     → IsLogStack plan log device image → (shown_of (disk_of device)).size ≡ plan.log_disk.sectors
 disk_size plan log device image is =
     sym (part_of_disk device).disk
-    ∙ ap (λ (p : Place). p.disk) (is.stands.place ∙ stack_place plan.log_disk log is.blank)
+    ∙ ap (λ (p : Origin). p.disk) (is.stands.origin ∙ stack_origin plan.log_disk log is.blank)
 
 leaves_image : (plan : RunPlan) (log device : Stack) (image : List ℕ) (few : ℕ) (core : CoreState)
     (end : Option End) → IsLogStack plan log device image
@@ -205,58 +205,58 @@ leaves_image plan log device image few core end is leaves =
       log =
           image_log plan.log_size plan.log_disk device seen.0 image is.room
           (is.stands.size ∙ top_size plan.log_disk log is.blank)
-          (is.stands.place ∙ stack_place plan.log_disk log is.blank)
+          (is.stands.origin ∙ stack_origin plan.log_disk log is.blank)
           (image_agrees disk image plan.log_disk.sectors is.bytes
           (disk_size plan log device image is)) seen.2 _ left.log;
       whole = left.whole;
     }
 
-each_ran : (plan : RunPlan) (players : List Player) (seats : List Part) (tallies : List Tally)
+each_ran : (plan : RunPlan) (players : List PlayerView) (seats : List Part) (tallies : List Tally)
     → HavePlayed plan.calls plan.seats players
-    → seats ≡ map (λ (p : Player). p.part) players → tallies ≡ map (λ (p : Player). p.tally) players
+    → seats ≡ map (λ (p : PlayerView). p.part) players → tallies ≡ map (λ (p : PlayerView). p.tally) players
     → (number : ℕ) (seat : Part) → slice_get seats number ≡ Some seat
-    → HasRun plan.calls tallies (map (λ (p : Player). p.receipts) players) number seat
+    → HasRun plan.calls tallies (map (λ (p : PlayerView). p.receipts) players) number seat
 each_ran plan players seats tallies played parts told number seat there =
     let found =
-    map_from (λ (p : Player). p.part) players number seat
+    map_from (λ (p : PlayerView). p.part) players number seat
     (sym (grind (arith, parts)) ∙ there) in
     let player = found.0 in record {
       tally = player.tally;
       counted =
-          grind (arith, told, map_there (λ (p : Player). p.tally) players number player found.1);
+          grind (arith, told, map_there (λ (p : PlayerView). p.tally) players number player found.1);
       receipts = player.receipts;
-      kept = map_there (λ (p : Player). p.receipts) players number player found.1;
+      kept = map_there (λ (p : PlayerView). p.receipts) players number player found.1;
       ran =
           rw found.2 at (played.each number player found.1);
     }
 
 pub is_run : (ground : Ground) (bytes sectors : ℕ) (plan : RunPlan) (log : Stack)
-    (players : List Player) (seats : List Part) (tallies : List Tally) (receipts : List Receipt)
+    (players : List PlayerView) (seats : List Part) (tallies : List Tally) (receipts : List Receipt)
     (closed : Closed Stack Stack) (status : Status) (lies : Lies) (image : List ℕ)
     → FitsRecorder bytes sectors plan → ground ≡ ground_of (stack_shown log)
     → bytes_of plan.log_size / 512 ≤ top_of plan.log_disk → IsStackOf plan.log_disk log
     → HavePlayed plan.calls plan.seats players
-    → seats ≡ map (λ (p : Player). p.part) players → tallies ≡ map (λ (p : Player). p.tally) players
-    → receipts ≡ joined (map (λ (p : Player). p.receipts) players)
-    → IsClosed ground bytes sectors seats receipts closed
+    → seats ≡ map (λ (p : PlayerView). p.part) players → tallies ≡ map (λ (p : PlayerView). p.tally) players
+    → receipts ≡ joined (map (λ (p : PlayerView). p.receipts) players)
+    → ClosesRecorder ground bytes sectors seats receipts closed
     → status ≡ closed.status
     → lies ≡ record {
       data_disk = (stack_shown closed.device).lies;
       log_disk = (stack_shown closed.log).lies;
     }
     → image ≡ gather (shown_of (disk_of closed.log)).content 0 (shown_of (disk_of closed.log)).size
-    → IsRun plan tallies status lies image
+    → RunsSeats plan tallies status lies image
 is_run ground bytes sectors plan log players seats tallies receipts closed status lies image fits on
     room blank played parts told kept close so lied left =
-    let here : IsClosed (ground_of (stack_shown log)) (bytes_of plan.log_size)
-    (top_of plan.data_disk) seats (joined (map (λ (p : Player). p.receipts) players)) closed =
-    subst (λ (rs : List Receipt). IsClosed (ground_of (stack_shown log)) (bytes_of plan.log_size)
+    let here : ClosesRecorder (ground_of (stack_shown log)) (bytes_of plan.log_size)
+    (top_of plan.data_disk) seats (joined (map (λ (p : PlayerView). p.receipts) players)) closed =
+    subst (λ (rs : List Receipt). ClosesRecorder (ground_of (stack_shown log)) (bytes_of plan.log_size)
     (top_of plan.data_disk) seats rs closed) kept
-    (subst (λ (g : Ground). IsClosed g (bytes_of plan.log_size)
+    (subst (λ (g : Ground). ClosesRecorder g (bytes_of plan.log_size)
     (top_of plan.data_disk) seats receipts closed) on
-    (subst (λ (n : ℕ). IsClosed ground n (top_of plan.data_disk) seats receipts closed)
+    (subst (λ (n : ℕ). ClosesRecorder ground n (top_of plan.data_disk) seats receipts closed)
     (sym fits.log_size)
-    (subst (λ (n : ℕ). IsClosed ground bytes n seats receipts closed)
+    (subst (λ (n : ℕ). ClosesRecorder ground bytes n seats receipts closed)
     (sym fits.data_size) close))) in
     let is : IsLogStack plan log closed.log image =
     record { room = room; blank = blank; stands = here.keeps_ground; bytes = left } in
@@ -265,9 +265,9 @@ is_run ground bytes sectors plan log players seats tallies receipts closed statu
       seats = seats;
       count = seats_long players seats plan.seats played.count parts;
       tallied =
-          ap length told ∙ map_long (λ (p : Player). p.tally) players
+          ap length told ∙ map_long (λ (p : PlayerView). p.tally) players
           ∙ played.count;
-      given = map (λ (p : Player). p.receipts) players;
+      given = map (λ (p : PlayerView). p.receipts) players;
       ran = each_ran plan players seats tallies played parts told;
       log = log;
       blank = blank;
@@ -285,22 +285,22 @@ is_run ground bytes sectors plan log players seats tallies receipts closed statu
           λ zero. grind (arith, leaves_image, zero);
     }
 
-have_run : (plan : RunPlan) (players : List Player) (seats : List Part) (tallies : List Tally)
-    → HavePlayed plan.calls plan.seats players → seats ≡ map (λ (p : Player). p.part) players
-    → tallies ≡ map (λ (p : Player). p.tally) players
-    → HaveRun plan seats (map (λ (p : Player). p.receipts) players)
+have_run : (plan : RunPlan) (players : List PlayerView) (seats : List Part) (tallies : List Tally)
+    → HavePlayed plan.calls plan.seats players → seats ≡ map (λ (p : PlayerView). p.part) players
+    → tallies ≡ map (λ (p : PlayerView). p.tally) players
+    → HaveRun plan seats (map (λ (p : PlayerView). p.receipts) players)
 have_run plan players seats tallies played parts told = record {
   count = seats_long players seats plan.seats played.count parts;
   tallies = tallies;
   ran = each_ran plan players seats tallies played parts told;
 }
 
-open_run : (plan : RunPlan) (players : List Player) → HavePlayed plan.calls plan.seats players
+open_run : (plan : RunPlan) (players : List PlayerView) → HavePlayed plan.calls plan.seats players
     → IsOpenRun plan
 open_run plan players played = record {
-  seats = map (λ (p : Player). p.part) players;
-  given = map (λ (p : Player). p.receipts) players;
-  made = have_run plan players _ (map (λ (p : Player). p.tally) players) played refl refl;
+  seats = map (λ (p : PlayerView). p.part) players;
+  given = map (λ (p : PlayerView). p.receipts) players;
+  made = have_run plan players _ (map (λ (p : PlayerView). p.tally) players) played refl refl;
 }
 
 pub fails_unplayed : (plan : RunPlan) (refusal : Refusal) (fault : RunError)
@@ -317,11 +317,11 @@ fails_unplayed plan refusal fault why same =
     other)
     why)
 
-pub fails_unclosed : (plan : RunPlan) (players : List Player) (seats : List Part)
+pub fails_unclosed : (plan : RunPlan) (players : List PlayerView) (seats : List Part)
     (tallies : List Tally) (receipts : List Receipt) (refusal : Refusal) (fault : RunError)
-    → HavePlayed plan.calls plan.seats players → seats ≡ map (λ (p : Player). p.part) players
-    → tallies ≡ map (λ (p : Player). p.tally) players
-    → receipts ≡ joined (map (λ (p : Player). p.receipts) players)
+    → HavePlayed plan.calls plan.seats players → seats ≡ map (λ (p : PlayerView). p.part) players
+    → tallies ≡ map (λ (p : PlayerView). p.tally) players
+    → receipts ≡ joined (map (λ (p : PlayerView). p.receipts) players)
     → IsUnclosed seats receipts refusal → fault ≡ refused_by refusal → FailsRun plan fault
 fails_unclosed plan players seats tallies receipts refusal fault played parts told kept why same =
     subst (FailsRun plan) (sym same) (⊎_elim
@@ -330,7 +330,7 @@ fails_unclosed plan players seats tallies receipts refusal fault played parts to
     (λ (is : (refusal ≡ refusals.Foreign) × IsForeignClose seats receipts). subst
     (λ (r : Refusal). FailsRun plan (refused_by r)) (sym is.0) (foreign (record {
       seats = seats;
-      given = map (λ (p : Player). p.receipts) players;
+      given = map (λ (p : PlayerView). p.receipts) players;
       made = have_run plan players seats tallies played parts told;
       close = subst (IsForeignClose seats) kept is.1;
     })))

@@ -9,8 +9,8 @@ use Rattle.std.proofs.lemmas.Bool.Decides.{nat_tests}
 use Rattle.bio.specs.declared.outcome.DevError.TheVariants as devices
 use Rattle.bio.specs.Events.{is_text}
 use Rattle.dmlw_script.specs.declared.command.Submission.{Submission}
-use Rattle.dmlw_script.specs.declared.run_line.Call.{Call}
-use Rattle.dmlw_script.specs.declared.run_line.Call.TheVariants.{Mark, Submit}
+use Rattle.dmlw_script.specs.declared.run_line.RunCall.{RunCall}
+use Rattle.dmlw_script.specs.declared.run_line.RunCall.TheVariants.{Mark, Submit}
 use Rattle.dmlw_script.specs.declared.run_line.SeatCall.{SeatCall}
 use Rattle.dmlw_script.specs.Words.{is_line_byte, is_line_text}
 use Rattle.lock_state.specs.Comparison.{Receipt}
@@ -19,14 +19,14 @@ use Rattle.script_runner.specs.declared.tally.Outcome.{Outcome}
 use Rattle.script_runner.specs.declared.tally.Outcome.TheVariants.{Done, Failed, Logged, NotLogged}
 use Rattle.script_runner.specs.declared.tally.Outcome.TheVariants.{Refused}
 use Rattle.script_runner.specs.declared.tally.Tally.{Tally}
-use Rattle.script_runner.specs.inside.{DoesLine, DoesLines, Makes, Player}
+use Rattle.script_runner.specs.inside.{DoesLine, DoesLines, MakesSeatCall, PlayerView}
 use Rattle.script_runner.specs.SeatRuns.{tally_of, mark_receipt_in, outcome_of, receipt_in}
 use Rattle.script_runner.specs.SeatRuns.{receipts_of, is_failed, is_logged, is_not_logged}
-use Rattle.script_runner.specs.SeatRuns.{is_refused, mark_outcome, CallResult, HasRoom, and_kept}
-use Rattle.script_runner.specs.SeatRuns.{counted, how_many, is_done, AreMade, MakesCall, IsSeatRun}
-use Rattle.script_runner.specs.SeatRuns.{calls_of}
+use Rattle.script_runner.specs.SeatRuns.{is_refused, mark_outcome, CallResult, TallyHasRoom, and_kept}
+use Rattle.script_runner.specs.SeatRuns.{tally_with, how_many, is_done, AreMade, MakesCall, IsSeatRun}
+use Rattle.script_runner.specs.SeatRuns.{seat_calls}
 use Rattle.script_runner.specs.Submissions.{bio_of}
-use Rattle.shared.specs.Answers.{Answered, Marked}
+use Rattle.shared.specs.SeatCalls.{Answered, AddsMark}
 use Rattle.shared.specs.declared.answer.Answer.{Answer}
 use Rattle.shared.specs.declared.answer.Answer.TheVariants as answers
 use Rattle.shared.specs.declared.answer.MarkAnswer.{MarkAnswer}
@@ -35,45 +35,45 @@ use Rattle.shared.specs.declared.answer.MarkRefusal.TheVariants as refusals
 
 pub own_more : (number : ℕ) (before : List SeatCall) (line : SeatCall)
     → (line.seat == number) ≡ true
-    → calls_of number (before ++ line ∷ []) ≡ calls_of number before ++ line.call ∷ []
+    → seat_calls number (before ++ line ∷ []) ≡ seat_calls number before ++ line.call ∷ []
 own_more number [] line own = rw own refl
 own_more number (first ∷ before) line own =
     also (first.seat == number) (own_more number before line own)
   where
-    also : (here : Bool) → calls_of number (before ++ line ∷ [])
-        ≡ calls_of number before ++ line.call ∷ []
-        → (if here then first.call ∷ calls_of number (before ++ line ∷ []) else calls_of number
+    also : (here : Bool) → seat_calls number (before ++ line ∷ [])
+        ≡ seat_calls number before ++ line.call ∷ []
+        → (if here then first.call ∷ seat_calls number (before ++ line ∷ []) else seat_calls number
         (before ++ line ∷ []))
-        ≡ (if here then first.call ∷ calls_of number before else calls_of number before)
+        ≡ (if here then first.call ∷ seat_calls number before else seat_calls number before)
         ++ line.call ∷ []
     also true rest = grind (arith, rest)
     also false rest = rest
 
 pub other_more : (number : ℕ) (before : List SeatCall) (line : SeatCall)
     → (line.seat == number) ≡ false
-    → calls_of number (before ++ line ∷ []) ≡ calls_of number before
+    → seat_calls number (before ++ line ∷ []) ≡ seat_calls number before
 other_more number [] line other = rw other refl
 other_more number (first ∷ before) line other =
     also (first.seat == number) (other_more number before line other)
   where
-    also : (here : Bool) → calls_of number (before ++ line ∷ []) ≡ calls_of number before
-        → (if here then first.call ∷ calls_of number (before ++ line ∷ []) else calls_of number
+    also : (here : Bool) → seat_calls number (before ++ line ∷ []) ≡ seat_calls number before
+        → (if here then first.call ∷ seat_calls number (before ++ line ∷ []) else seat_calls number
         (before ++ line ∷ []))
-        ≡ (if here then first.call ∷ calls_of number before else calls_of number before)
+        ≡ (if here then first.call ∷ seat_calls number before else seat_calls number before)
     also true rest = grind (arith, rest)
     also false rest = rest
 
-own_few : (number : ℕ) (lines : List SeatCall) → length (calls_of number lines) ≤ length lines
+own_few : (number : ℕ) (lines : List SeatCall) → length (seat_calls number lines) ≤ length lines
 own_few number [] = omega arith
 own_few number (line ∷ lines) = also (line.seat == number) (own_few number lines)
   where
-    also : (here : Bool) → length (calls_of number lines) ≤ length lines
-        → length (if here then line.call ∷ calls_of number lines else calls_of number lines) ≤ suc
+    also : (here : Bool) → length (seat_calls number lines) ≤ length lines
+        → length (if here then line.call ∷ seat_calls number lines else seat_calls number lines) ≤ suc
         (length lines)
     also true few = omega (arith, few)
     also false few = omega (arith, few)
 
-made_more : (old between new : Part) (calls : List Call) (comes : List CallResult) (call : Call)
+made_more : (old between new : Part) (calls : List RunCall) (comes : List CallResult) (call : RunCall)
     (came : CallResult)
     → AreMade old calls comes between → MakesCall between call came new
     → AreMade old (calls ++ call ∷ []) (comes ++ came ∷ []) new
@@ -84,7 +84,7 @@ made_more old between new (first ∷ calls) [] call came made one = absurd made
 made_more old between new (first ∷ calls) (one_came ∷ comes) call came made one =
     (made.0, made.1, made_more made.0 between new calls comes call came made.2 one)
 
-made_length : (old new : Part) (calls : List Call) (comes : List CallResult)
+made_length : (old new : Part) (calls : List RunCall) (comes : List CallResult)
     → AreMade old calls comes new
     → length comes ≡ length calls
 made_length old new [] [] made = refl
@@ -121,7 +121,7 @@ abbrev came_to : Outcome → Option Receipt → CallResult
 came_to outcome receipt = record { outcome = outcome; receipt = receipt }
 
 tally_more : (comes : List CallResult) (outcome : Outcome) (receipt : Option Receipt)
-    → tally_of (comes ++ came_to outcome receipt ∷ []) ≡ counted (tally_of comes) outcome
+    → tally_of (comes ++ came_to outcome receipt ∷ []) ≡ tally_with (tally_of comes) outcome
 tally_more comes Done receipt = grind (arith, many_yes, many_no)
 tally_more comes Logged receipt = grind (arith, many_no, many_yes)
 tally_more comes Failed receipt = grind (arith, many_no, many_yes)
@@ -129,7 +129,7 @@ tally_more comes NotLogged receipt = grind (arith, many_no, many_yes)
 tally_more comes Refused receipt = grind (arith, many_no, many_yes)
 
 -- No count is larger than the number of calls, so each count can grow by one.
-has_room : (comes : List CallResult) → length comes < 2 ^ 64 - 1 → HasRoom (tally_of comes)
+has_room : (comes : List CallResult) → length comes < 2 ^ 64 - 1 → TallyHasRoom (tally_of comes)
 has_room comes few = record {
   done = let most = many_few is_done comes in omega (arith, most, few);
   logged = let most = many_few is_logged comes in omega (arith, most, few);
@@ -154,13 +154,13 @@ kept_more (first ∷ comes) came =
     ap (λ (rest : List Receipt). and_kept [] first.receipt ++ rest) (kept_more comes came)
     ∙ kept_behind (and_kept [] first.receipt) (receipts_of comes) came.receipt
 
-pub makes_request : (submission : Submission) (inside old : Player) (part : Part)
+pub makes_request : (submission : Submission) (inside old : PlayerView) (part : Part)
     (answer : Answer Receipt)
     (outcome : Outcome) (given : Option Receipt) (receipts : List Receipt)
     → inside ≡ old → Answered inside.part (bio_of submission) answer part
     → outcome ≡ outcome_of answer → given ≡ receipt_in answer
     → receipts ≡ and_kept inside.receipts given
-    → Makes (Submit submission) old outcome
+    → MakesSeatCall (Submit submission) old outcome
     (record { number = inside.number; part = part; tally = inside.tally; receipts = receipts })
 makes_request submission inside old part answer outcome given receipts same answered so has kept =
     record {
@@ -173,12 +173,12 @@ makes_request submission inside old part answer outcome given receipts same answ
       tally = grind (arith, same);
     }
 
-pub makes_mark : (text : List ℕ) (inside old : Player) (part : Part)
+pub makes_mark : (text : List ℕ) (inside old : PlayerView) (part : Part)
     (answer : MarkAnswer Receipt)
     (outcome : Outcome) (given : Option Receipt) (receipts : List Receipt)
-    → inside ≡ old → Marked inside.part text answer part → outcome ≡ mark_outcome answer
+    → inside ≡ old → AddsMark inside.part text answer part → outcome ≡ mark_outcome answer
     → given ≡ mark_receipt_in answer → receipts ≡ and_kept inside.receipts given
-    → Makes (Mark text) old outcome
+    → MakesSeatCall (Mark text) old outcome
     (record { number = inside.number; part = part; tally = inside.tally; receipts = receipts })
 makes_mark text inside old part answer outcome given receipts same marked so has kept = record {
   came = came_to (mark_outcome answer) (mark_receipt_in answer);
@@ -191,8 +191,8 @@ makes_mark text inside old part answer outcome given receipts same marked so has
 }
 
 -- If memory runs out, a request has failed, a mark is refused, and the seat is unchanged.
-pub fails : (submission : Submission) (old new : Player) → new ≡ old
-    → Makes (Submit submission) old Failed new
+pub fails : (submission : Submission) (old new : PlayerView) → new ≡ old
+    → MakesSeatCall (Submit submission) old Failed new
 fails submission old new same = record {
   came = came_to Failed None;
   made = (answers.Failed devices.Memory, inl (grind (arith, same), inr refl), refl);
@@ -202,7 +202,7 @@ fails submission old new same = record {
   tally = grind (arith, same);
 }
 
-pub refused : (text : List ℕ) (old new : Player) → new ≡ old → Makes (Mark text) old Refused new
+pub refused : (text : List ℕ) (old new : PlayerView) → new ≡ old → MakesSeatCall (Mark text) old Refused new
 refused text old new same = record {
   came = came_to Refused None;
   made = (marks.Refused refusals.Memory, grind (arith, same), refl);
@@ -212,9 +212,9 @@ refused text old new same = record {
   tally = grind (arith, same);
 }
 
-pub did_own : (old new : Player) (tally : Tally) (line : SeatCall) (outcome : Outcome)
+pub did_own : (old new : PlayerView) (tally : Tally) (line : SeatCall) (outcome : Outcome)
     → (line.seat == old.number) ≡ true
-    → Makes line.call old outcome new → (HasRoom old.tally → tally ≡ counted old.tally outcome)
+    → MakesSeatCall line.call old outcome new → (TallyHasRoom old.tally → tally ≡ tally_with old.tally outcome)
     → (before : List SeatCall) → length before < 2 ^ 64 - 1
     → IsSeatRun before old.number old.part old.tally old.receipts
     → IsSeatRun (before ++ line ∷ []) old.number new.part tally new.receipts
@@ -236,7 +236,7 @@ did_own old new tally line outcome own makes counts before few ran =
       kept_more ran.calls makes.came,
     )
 
-pub did_other : (old : Player) (line : SeatCall) → (line.seat == old.number) ≡ false
+pub did_other : (old : PlayerView) (line : SeatCall) → (line.seat == old.number) ≡ false
     → (before : List SeatCall) → length before < 2 ^ 64 - 1
     → IsSeatRun before old.number old.part old.tally old.receipts
     → IsSeatRun (before ++ line ∷ []) old.number old.part old.tally old.receipts
@@ -248,15 +248,15 @@ did_other old line other before few ran = record {
   kept = ran.kept;
 }
 
-pub skips : (line : SeatCall) (inside old : Player) → inside ≡ old
+pub skips : (line : SeatCall) (inside old : PlayerView) → inside ≡ old
     → (line.seat == inside.number) ≡ false → DoesLine line old old
 skips line inside old same other =
     rw (← same) (record { number = refl; ran = did_other inside line other })
 
-pub does : (line : SeatCall) (inside old second made : Player) (tally : Tally) (outcome : Outcome)
+pub does : (line : SeatCall) (inside old second made : PlayerView) (tally : Tally) (outcome : Outcome)
     → inside ≡ old → second ≡ made
-    → (line.seat == inside.number) ≡ true → Makes line.call old outcome made
-    → (HasRoom second.tally → tally ≡ counted second.tally outcome)
+    → (line.seat == inside.number) ≡ true → MakesSeatCall line.call old outcome made
+    → (TallyHasRoom second.tally → tally ≡ tally_with second.tally outcome)
     → DoesLine line old (record {
       number = second.number;
       part = second.part;
@@ -269,11 +269,11 @@ does line inside old second made tally outcome same later own makes counts = rec
       did_own old second tally line outcome
       (rw (← same) own)
       (rw later makes)
-      (subst (λ (t : Tally). HasRoom t → tally ≡ counted t outcome)
+      (subst (λ (t : Tally). TallyHasRoom t → tally ≡ tally_with t outcome)
       (grind (arith, later, makes.tally)) counts);
 }
 
-pub did_more : (lines : List SeatCall) (line : SeatCall) (old between new : Player)
+pub did_more : (lines : List SeatCall) (line : SeatCall) (old between new : PlayerView)
     → length lines < 2 ^ 64 - 1
     → DoesLines lines old between → DoesLine line between new
     → DoesLines (lines ++ line ∷ []) old new
@@ -295,7 +295,7 @@ take_next (y ∷ ys) zero x there = ap (λ z. z ∷ []) (cc)
 take_next (y ∷ ys) (suc n) x there = ap (λ zs. y ∷ zs) (take_next ys n x there)
 
 pub does_next : (lines : List SeatCall) (place next : ℕ) (line : SeatCall)
-    (old between new : Player) → next ≡ suc place → place < 2 ^ 64 - 1
+    (old between new : PlayerView) → next ≡ suc place → place < 2 ^ 64 - 1
     → slice_get lines place ≡ Some line → DoesLines (take place lines) old between
     → DoesLine line between new → DoesLines (take next lines) old new
 does_next lines place next line old between new is few there before one =

@@ -22,7 +22,7 @@ use Rattle.blockdev.specs.declared.device.BlockDev.{Ghosts}
 use Rattle.blockdev.specs.Law.{DeviceFrame}
 use Rattle.sector_disk.specs.Candidates.{left_by}
 use Rattle.sector_disk.specs.declared.disk.SectorDisk.{SectorDisk}
-use Rattle.sector_disk.specs.DiskView.{Begins, cache_of, shown_of}
+use Rattle.sector_disk.specs.DiskView.{PastBegins, cache_of, shown_of}
 use Rattle.layer_table.specs.declared.stack.Stack.{Stack}
 use Rattle.layer_table.specs.Layers.{AreOver, disk_of, layers_of, layers_under, on_stack}
 use Rattle.layer_table.specs.Layers.{some_drops, stack_shown, top_origin}
@@ -30,12 +30,12 @@ use Rattle.layer_table.specs.StackMessages.{StackAnswers}
 use Rattle.log_format.specs.Entries.{sectors_per}
 use Rattle.log_format.specs.LogOf.{IsLogOf, first_sector, status_of}
 use Rattle.log_store.specs.Calls.{HasFaulted, store_of}
-use Rattle.log_store.specs.Store.{entries_of}
+use Rattle.log_store.specs.Store.{store_entries}
 use Rattle.pending.specs.CoreState.{sized_state}
 use Rattle.recorder.specs.Calls.{core_of, recorder_view}
 use Rattle.recorder.specs.declared.recorder.Recorder.{Recorder}
 use Rattle.recorder.specs.Growth.{ReplaysToPossible}
-use Rattle.recorder.specs.RecorderView.{log_of}
+use Rattle.recorder.specs.RecorderView.{listed_entries}
 use Rattle.dmlw_script.specs.Plans.{Disk, ScriptValue, top_of}
 use Rattle.script_runner.specs.declared.recording.Lies.{Lies}
 use Rattle.script_runner.specs.declared.running.Running.{Running}
@@ -54,7 +54,7 @@ pub record IsNewOn {L : Type 0} {l : Ghosts L} (bytes : ℕ) (device : L)
   pub core : core_of recorder ≡ sized_state bytes
   pub end : recorder.end ≡ None
   pub placed : recorder.store.placed ≡ 0
-  pub moment : recorder.store.moment ≡ 0
+  pub time : recorder.store.time ≡ 0
   pub made : DeviceFrame (writes 0 (first_sector bytes 0)) (l.shown device)
       (l.shown recorder.store.device)
   pub empty : (l.shown recorder.store.device).lies ≡ 0 → (left : Content)
@@ -91,7 +91,7 @@ zeroes sector = replicate 512 0
 -- `stack` is as `disk` asks: a new disk of zeroes under the layers of `disk`, the first of which is
 -- the lowest. Each layer is loaded at time 0, and wasn't called yet.
 pub record IsStackOf (disk : Disk) (stack : Stack) : Type 0 where
-  pub blank : Begins disk.sectors zeroes (shown_of (disk_of stack))
+  pub blank : PastBegins disk.sectors zeroes (shown_of (disk_of stack))
   pub layers : layers_of stack ≡ layers_under disk.layers 0 []
   pub over : AreOver disk.layers (shown_of (disk_of stack)) (stack_shown stack)
 
@@ -116,7 +116,7 @@ pub record Starts (plan : ScriptValue) (run : DiskRun) : Type 0 where
   pub data_disk : IsStackOf plan.data_disk run.disk
   pub log_disk : IsNew (bytes_of plan.log_size) plan.log_disk run.recorder
   pub none : run.requests.items ≡ []
-  pub moment : run.moment ≡ 0
+  pub time : run.time ≡ 0
   pub short : run.short ≡ false
 
 -- The content that is left on `disk`: the present content, or, with picks, what a crash with these
@@ -162,7 +162,7 @@ pub record IsRecorded (plan : ScriptValue) (text : List ℕ) (status : Status) (
   -- unless a layer of the log lied, `status` is that of a log of the placed entries
   pub tells : lies.log_disk ≡ 0
       → status ≡ status_of (bytes_of plan.log_size)
-      (entries_of (store_of last.recorder.store)) last.recorder.end
+      (store_entries (store_of last.recorder.store)) last.recorder.end
   -- unless a layer of the log lied, `image` has a log, seen through the layers. It is a prefix of
   -- the completion list of the recorder's events. It has all entries that were settled, and all
   -- that were acknowledged. Each prefix of it replays to what the recorded device could hold
@@ -173,7 +173,7 @@ pub record IsRecorded (plan : ScriptValue) (text : List ℕ) (status : Status) (
   pub whole : lies.log_disk ≡ 0 → has_no_close (core_of last.recorder).events ≡ false
       → last.recorder.end ≡ None →
       IsLogOf (top_of plan.log_disk) (seen_on plan.log_disk image) (bytes_of plan.log_size)
-      (log_of (core_of last.recorder))
+      (listed_entries (core_of last.recorder))
 
 -- Why recording `plan` fails; `plan` was parsed from `text`.
 -- - `file`: memory ran out, or the output can't be written.

@@ -18,7 +18,7 @@ pub use Rattle.sector_disk.specs.DiskView
 pub use Rattle.dmlw_script.specs.RunPlans
 pub use Rattle.lock_state.specs.Comparison
 pub use Rattle.lock_state.specs.History
-pub use Rattle.shared.specs.Answers
+pub use Rattle.shared.specs.SeatCalls
 pub use Rattle.shared.specs.Close as Closes
 pub mod CallLaws
 pub mod Submissions

@@ -23,7 +23,7 @@ use Rattle.blockdev.specs.declared.device.BlockDev.{Ghosts}
 use Rattle.blockdev.specs.declared.message.MessageError.{MessageError}
 use Rattle.blockdev.specs.Messages.{message_refusal, Unchanged}
 use Rattle.log_store.specs.Calls.{Same}
-use Rattle.recorder.specs.Calls.{Completes, Drains, Marks, Submits, last_turn, core_of}
+use Rattle.recorder.specs.Calls.{Completes, Drains, Marks, SubmitsRequest, last_turn, core_of}
 use Rattle.recorder.specs.Calls.{recorder_view, Turns, Closes}
 use Rattle.recorder.specs.declared.recorder.Recorder.{Recorder}
 use Rattle.recorder.specs.declared.reply.Reply.{Reply}
@@ -94,14 +94,14 @@ abbrev pub outcome_line : ScriptId → Bool → List ℕ
 outcome_line name ok = letters_of name ++ codes " " ++ outcome_word ok ++ codes "\n"
 
 -- The first byte of each of `count` sectors, as two hexadecimal digits.
-abbrev pub first_bytes : ℕ → List ℕ → List ℕ
-first_bytes count bytes =
+abbrev pub printed_bytes : ℕ → List ℕ → List ℕ
+printed_bytes count bytes =
     collect (λ sector. byte_text (slice_index_or bytes (sector * 512) 0)) count
 
 -- How the line of a read ends: `ok` and the first byte of each sector, or `failed` if nothing was
 -- read.
 abbrev pub read_outcome : ℕ → Option (List ℕ) → List ℕ
-read_outcome count (Some bytes) = codes "ok " ++ first_bytes count bytes
+read_outcome count (Some bytes) = codes "ok " ++ printed_bytes count bytes
 read_outcome count None = codes "failed"
 
 -- The line that a read prints.
@@ -150,10 +150,10 @@ had_memory run = not run.short && list_all is_asked run.requests.items
 -- `request` is what became of a submission of `bio`. If it is `Asked`, the recorder tracks `bio` by
 -- an id or passes it. If it is `NotAsked`, memory ran out. This happened either for the bytes of
 -- `bio`, and the recorder wasn't called, or in the recorder, which refused `bio`.
-abbrev pub Asks : {L : Type 0} {l : Ghosts L} → Bio → Request → Recorder L l → Recorder L l → Type 0
-Asks bio (requests.Asked kept id) old new = (kept ≡ bio) × Submits bio (reply_of id) old new
-Asks bio requests.NotAsked old new =
-    ((has_data bio ≡ true) × (new ≡ old)) ⊎ Submits bio (replies.Refused refusals.Memory) old new
+abbrev pub BecomesRequest : {L : Type 0} {l : Ghosts L} → Bio → Request → Recorder L l → Recorder L l → Type 0
+BecomesRequest bio (requests.Asked kept id) old new = (kept ≡ bio) × SubmitsRequest bio (reply_of id) old new
+BecomesRequest bio requests.NotAsked old new =
+    ((has_data bio ≡ true) × (new ≡ old)) ⊎ SubmitsRequest bio (replies.Refused refusals.Memory) old new
 
 -- What a submission prints: nothing, or that the request failed because memory ran out.
 abbrev pub submission_text : ScriptId → Request → List ℕ
@@ -165,7 +165,7 @@ pub record SubmitsNext {D L : Type 0} {d : Ghosts D} {l : Ghosts L} (names : Lis
     (bio : Bio) (text : List ℕ) (old new : Running D L d l) : Type 0 where
   pub device : new.disk ≡ old.disk
   pub request : Request
-  pub asks : Asks bio request old.recorder new.recorder
+  pub asks : BecomesRequest bio request old.recorder new.recorder
   pub kept : new.requests.items ≡ old.requests.items ++ request ∷ []
   pub short : new.short ≡ old.short
   pub prints : text ≡ submission_text (name_at names (length old.requests.items)) request
@@ -182,14 +182,14 @@ RecordsEnd None ok old new = new ≡ old
 pub record EndsSubmittedRequest {D L : Type 0} {d : Ghosts D} {l : Ghosts L} (bio : Bio) (id : Option ℕ)
     (name : ScriptId) (text : List ℕ) (old new : Running D L d l) : Type 0 where
   pub answer : Result ℕ DevError
-  pub hands_over : PassesRequest d.does old.moment bio answer old.disk new.disk
+  pub hands_over : PassesRequest d.does old.time bio answer old.disk new.disk
   pub hears : RecordsEnd id (is_ok answer) old.recorder new.recorder
   pub kept : new.requests.items ≡ old.requests.items
   pub short : new.short ≡ (old.short || is_out_of_memory answer)
   pub prints : text ≡ outcome_line name (is_ok answer)
 
 -- A line doesn't change the data device or the list of requests, and prints nothing.
-pub record KeepsData {D L : Type 0} {d : Ghosts D} {l : Ghosts L} (text : List ℕ)
+pub record ChangesNoData {D L : Type 0} {d : Ghosts D} {l : Ghosts L} (text : List ℕ)
     (old new : Running D L d l) : Type 0 where
   pub device : new.disk ≡ old.disk
   pub kept : new.requests.items ≡ old.requests.items
@@ -201,14 +201,14 @@ abbrev pub EndsRequest : {D L : Type 0} {d : Ghosts D} {l : Ghosts L} → Option
     → List ℕ → Running D L d l → Running D L d l → Type 0
 EndsRequest (Some (requests.Asked bio id)) name text old new = EndsSubmittedRequest bio id name text old new
 EndsRequest (Some requests.NotAsked) name text old new =
-    KeepsData text old new × (new.recorder ≡ old.recorder) × (new.short ≡ old.short)
+    ChangesNoData text old new × (new.recorder ≡ old.recorder) × (new.short ≡ old.short)
 EndsRequest None name text old new = ⊥
 
 -- A line closes recording. Then the writer takes turns until the log is complete or logging ends.
 -- The run gets short if logging ended because memory ran out.
 pub record EndsRecording {D L : Type 0} {d : Ghosts D} {l : Ghosts L} (text : List ℕ)
     (old new : Running D L d l) : Type 0 where
-  pub keeps : KeepsData text old new
+  pub keeps : ChangesNoData text old new
   pub closed : Recorder L l
   pub closes : Closes replies.Closed old.recorder closed
   pub answer : Result Unit End
@@ -217,20 +217,20 @@ pub record EndsRecording {D L : Type 0} {d : Ghosts D} {l : Ghosts L} (text : Li
 
 -- A line reads from the data device. The recorder isn't called. If memory for the read runs out,
 -- the line prints that the read failed, and the run doesn't get short.
-pub record ReadsData {D L : Type 0} {d : Ghosts D} {l : Ghosts L} (first count : ℕ) (text : List ℕ)
+pub record PrintsData {D L : Type 0} {d : Ghosts D} {l : Ghosts L} (first count : ℕ) (text : List ℕ)
     (old new : Running D L d l) : Type 0 where
   pub log : new.recorder ≡ old.recorder
   pub kept : new.requests.items ≡ old.requests.items
   pub short : new.short ≡ old.short
   pub bytes : Option (List ℕ)
-  pub reads : ReadsSectors d.does old.moment first count bytes old.disk new.disk
+  pub reads : ReadsSectors d.does old.time first count bytes old.disk new.disk
   pub prints : text ≡ read_line first count bytes
 
 -- A line gives the writer a turn. The run gets short if logging ends in this turn because memory
 -- ran out.
 pub record GivesTurn {D L : Type 0} {d : Ghosts D} {l : Ghosts L} (text : List ℕ)
     (old new : Running D L d l) : Type 0 where
-  pub keeps : KeepsData text old new
+  pub keeps : ChangesNoData text old new
   pub turn : Turn
   pub turns : Turns turn old.recorder new.recorder
   pub short : new.short ≡ (old.short || is_memory_end turn)
@@ -245,14 +245,14 @@ PrintsMark (replies.Refused refusal) printed = (refusal ≡ refusals.Memory) × 
 PrintsMark _ printed = ⊥
 
 -- A line sets the time of the later calls of both devices. No event is recorded.
-pub record SetsTime {D L : Type 0} {d : Ghosts D} {l : Ghosts L} (moment : ℕ) (text : List ℕ)
+pub record SetsTime {D L : Type 0} {d : Ghosts D} {l : Ghosts L} (time : ℕ) (text : List ℕ)
     (old new : Running D L d l) : Type 0 where
-  pub keeps : KeepsData text old new
+  pub keeps : ChangesNoData text old new
   pub core : core_of new.recorder ≡ core_of old.recorder
   pub end : new.recorder.end ≡ old.recorder.end
   pub store : Same (recorder_view old.recorder).store (recorder_view new.recorder).store
   pub device : new.recorder.store.device ≡ old.recorder.store.device
-  pub log_moment : new.recorder.store.moment ≡ moment
+  pub log_time : new.recorder.store.time ≡ time
   pub short : new.short ≡ old.short
 
 -- A line passes a mark to the recorder. The data device isn't called. The recorder refuses the mark
@@ -294,14 +294,14 @@ pub record SendsToData {D L : Type 0} {d : Ghosts D} {l : Ghosts L} (m : Answeri
 -- contracts see of the device doesn't change, and neither do the recorder's core and its log.
 pub record SendsToLog {D L : Type 0} {d : Ghosts D} {l : Ghosts L} (m : Answering D L) (layer : ℕ)
     (asked text : List ℕ) (old new : Running D L d l) : Type 0 where
-  pub keeps : KeepsData text old new
+  pub keeps : ChangesNoData text old new
   pub short : new.short ≡ old.short
   pub takes : m.log_device old.recorder.store.device layer asked (Ok tt) new.recorder.store.device
   pub unchanged : Unchanged (l.shown old.recorder.store.device) (l.shown new.recorder.store.device)
   pub core : core_of new.recorder ≡ core_of old.recorder
   pub end : new.recorder.end ≡ old.recorder.end
   pub store : Same (recorder_view old.recorder).store (recorder_view new.recorder).store
-  pub log_moment : new.recorder.store.moment ≡ old.recorder.store.moment
+  pub log_time : new.recorder.store.time ≡ old.recorder.store.time
 
 -- A line sends the message `asked` to a layer of a disk, and the layer accepts it.
 abbrev pub SendsToLayer : {D L : Type 0} {d : Ghosts D} {l : Ghosts L} → Answering D L
@@ -322,31 +322,31 @@ RefusesMessage {L = L} m disks.Log layer asked error old =
 abbrev pub TakesStep : {D L : Type 0} {d : Ghosts D} {l : Ghosts L} → Answering D L → Step → List ℕ
     → Running D L d l → Running D L d l → Type 0
 TakesStep m steps.Close text old new = EndsRecording text old new
-TakesStep m (steps.Read first count) text old new = ReadsData first count text old new
+TakesStep m (steps.Read first count) text old new = PrintsData first count text old new
 TakesStep m steps.Turn text old new = GivesTurn text old new
 TakesStep m (steps.Mark mark) text old new = RecordsMark mark text old new
-TakesStep m (steps.At moment) text old new = SetsTime moment text old new
+TakesStep m (steps.At time) text old new = SetsTime time text old new
 TakesStep m (steps.Message over layer asked) text old new =
     SendsToLayer m over layer asked text old new
 
 -- What the line with the command `command` does, and what it prints (`text`).
-abbrev pub Does : {D L : Type 0} {d : Ghosts D} {l : Ghosts L} → Answering D L → List ScriptId
+abbrev pub DoesCommand : {D L : Type 0} {d : Ghosts D} {l : Ghosts L} → Answering D L → List ScriptId
     → Command → List ℕ → Running D L d l → Running D L d l → Type 0
-Does m names (commands.Submit submission) text old new =
+DoesCommand m names (commands.Submit submission) text old new =
     SubmitsNext names (bio_of submission) text old new
-Does m names (commands.Complete request) text old new =
+DoesCommand m names (commands.Complete request) text old new =
     EndsRequest (slice_get old.requests.items request) (name_at names request) text old new
-Does m names (commands.Step step) text old new = TakesStep m step text old new
+DoesCommand m names (commands.Step step) text old new = TakesStep m step text old new
 
--- What a line does to a run (`Does`), and to the times of both devices. An `at` sets both times;
--- any other line changes neither. The recorder changes only as its calls can change it
+-- What a line does to a run (`DoesCommand`), and to the times of both devices. An `at` sets both
+-- times; any other line changes neither. The recorder changes only as its calls can change it
 -- (`RecorderFrame`).
 pub record RunsLine {D L : Type 0} {d : Ghosts D} {l : Ghosts L} (m : Answering D L)
     (names : List ScriptId) (command : Command) (text : List ℕ)
     (old new : Running D L d l) : Type 0 where
-  pub does : Does m names command text old new
-  pub moment : new.moment ≡ time_at old.moment command
-  pub log_moment : new.recorder.store.moment ≡ time_at old.recorder.store.moment command
+  pub does : DoesCommand m names command text old new
+  pub time : new.time ≡ time_at old.time command
+  pub log_time : new.recorder.store.time ≡ time_at old.recorder.store.time command
   pub goes : RecorderFrame (recorder_view old.recorder) (recorder_view new.recorder)
 
 -- A line is run, and the output gets what the line prints.
@@ -356,8 +356,8 @@ PrintsLine m names command before after old new =
     (text : List ℕ) × RunsLine m names command text old new × Appends before after text
 
 -- How many requests a line submits: 1 or 0.
-abbrev pub count_of : Command → ℕ
-count_of command = if is_submission command then 1 else 0
+abbrev pub submission_count : Command → ℕ
+submission_count command = if is_submission command then 1 else 0
 
 -- The sectors that a line names are within a data device of `sectors` sectors. They are aligned to
 -- log sectors of `bytes` bytes.

@@ -15,7 +15,7 @@ use Rattle.blockdev.specs.Messages.{message_refusal}
 use Rattle.recorder.specs.Calls.{Closes, core_of}
 use Rattle.recorder.specs.declared.recorder.Recorder.{Recorder}
 use Rattle.recorder.specs.declared.reply.Reply.TheVariants as replies
-use Rattle.recorder.specs.RecorderView.{log_of}
+use Rattle.recorder.specs.RecorderView.{listed_entries}
 use Rattle.dmlw_script.specs.declared.command.Command.{Command}
 use Rattle.dmlw_script.specs.declared.command.Command.TheVariants as commands
 use Rattle.dmlw_script.specs.declared.command.Step.TheVariants as steps
@@ -32,16 +32,16 @@ use Rattle.script_runner.specs.Submissions.{bio_of}
 
 -- Steps, one for each element of a list, lead from the state `old` to the state `new`. `text` is
 -- all that they print.
-abbrev pub Chain : {C S : Type 0} → (C → List ℕ → S → S → Type 0) → List C → List ℕ → S → S → Type 0
-Chain Step [] text old new = (text ≡ []) × (new ≡ old)
-Chain {S = S} Step (c ∷ cs) text old new =
+abbrev pub StepsLead : {C S : Type 0} → (C → List ℕ → S → S → Type 0) → List C → List ℕ → S → S → Type 0
+StepsLead Step [] text old new = (text ≡ []) × (new ≡ old)
+StepsLead {S = S} Step (c ∷ cs) text old new =
     (mid : S) × (first : List ℕ) × (rest : List ℕ) × (text ≡ first ++ rest) × Step c first old mid
-    × Chain Step cs rest mid new
+    × StepsLead Step cs rest mid new
 
 -- The lines `body` are run, and print `text`.
 abbrev pub RunsLines : {D L : Type 0} {d : Ghosts D} {l : Ghosts L} → Answering D L → List ScriptId
     → List Command → List ℕ → Running D L d l → Running D L d l → Type 0
-RunsLines m names body text old new = Chain (RunsLine m names) body text old new
+RunsLines m names body text old new = StepsLead (RunsLine m names) body text old new
 
 -- The lines `body` are run, and the output gets what they print.
 abbrev pub PrintsLines : {D L : Type 0} {d : Ghosts D} {l : Ghosts L} → Answering D L
@@ -123,7 +123,7 @@ submissions_of (commands.Step step ∷ body) = submissions_of body
 -- When the log of a script's run is complete.
 
 -- If recording is closed and logging hasn't ended, the store has placed the whole completion list.
-abbrev pub IsWritten : {L : Type 0} {l : Ghosts L} → Recorder L l → Type 0
-IsWritten recorder =
+abbrev pub LogIsWritten : {L : Type 0} {l : Ghosts L} → Recorder L l → Type 0
+LogIsWritten recorder =
     has_no_close (core_of recorder).events ≡ false → recorder.end ≡ None
-    → recorder.store.placed ≡ length (log_of (core_of recorder))
+    → recorder.store.placed ≡ length (listed_entries (core_of recorder))

@@ -22,18 +22,18 @@ use Rattle.log_store.specs.Calls.{HasFaulted}
 use Rattle.lock_state.specs.Calls.{Holds}
 use Rattle.lock_state.specs.Comparison.{Each, LegalHistory, Receipt}
 use Rattle.lock_state.specs.FirstStop.{HasStopCause}
-use Rattle.lock_state.specs.History.{KeepsCause, Part, first_cause, named, new_part, one_if}
+use Rattle.lock_state.specs.History.{KeepsCause, Part, first_cause, seat_count, new_part, one_if}
 use Rattle.lock_state.specs.History.{recorded_count}
-use Rattle.lock_state.specs.PlacedItems.{Ground, HasCause, KeepsGround, entries_in, ground_of}
-use Rattle.shared.specs.Answers.{Answered, Marked}
+use Rattle.lock_state.specs.PlacedItems.{Ground, HasEndCause, KeepsGround, entries_in, ground_of}
+use Rattle.shared.specs.SeatCalls.{Answered, AddsMark}
 use Rattle.shared.specs.Close.{Agrees, Differs, IsReceipt, LeavesLog}
 use Rattle.shared.specs.declared.answer.Answer.{Answer}
 use Rattle.shared.specs.declared.answer.Answer.TheVariants as answers
 use Rattle.shared.specs.declared.answer.MarkAnswer.{MarkAnswer}
 use Rattle.shared.specs.declared.answer.MarkAnswer.TheVariants as marks
 use Rattle.shared.specs.declared.closing.Closed.{Closed}
-use Rattle.dmlw_script.specs.declared.run_line.Call.{Call}
-use Rattle.dmlw_script.specs.declared.run_line.Call.TheVariants.{Mark, Submit}
+use Rattle.dmlw_script.specs.declared.run_line.RunCall.{RunCall}
+use Rattle.dmlw_script.specs.declared.run_line.RunCall.TheVariants.{Mark, Submit}
 use Rattle.dmlw_script.specs.declared.run_line.SeatCall.{SeatCall}
 use Rattle.dmlw_script.specs.Plans.{top_of}
 use Rattle.dmlw_script.specs.RunPlans.{RunPlan}
@@ -136,15 +136,15 @@ abbrev pub no_calls : Tally
 no_calls = record { done = 0; logged = 0; failed = 0; not_logged = 0; refused = 0 }
 
 -- The tally after one more call with this outcome.
-abbrev pub counted : Tally → Outcome → Tally
-counted tally Done = record tally { done = tally.done + 1 }
-counted tally Logged = record tally { logged = tally.logged + 1 }
-counted tally Failed = record tally { failed = tally.failed + 1 }
-counted tally NotLogged = record tally { not_logged = tally.not_logged + 1 }
-counted tally Refused = record tally { refused = tally.refused + 1 }
+abbrev pub tally_with : Tally → Outcome → Tally
+tally_with tally Done = record tally { done = tally.done + 1 }
+tally_with tally Logged = record tally { logged = tally.logged + 1 }
+tally_with tally Failed = record tally { failed = tally.failed + 1 }
+tally_with tally NotLogged = record tally { not_logged = tally.not_logged + 1 }
+tally_with tally Refused = record tally { refused = tally.refused + 1 }
 
 -- Each count of the tally can grow by one.
-pub record HasRoom (tally : Tally) : Type 0 where
+pub record TallyHasRoom (tally : Tally) : Type 0 where
   pub done : tally.done < 2 ^ 64 - 1
   pub logged : tally.logged < 2 ^ 64 - 1
   pub failed : tally.failed < 2 ^ 64 - 1
@@ -154,16 +154,16 @@ pub record HasRoom (tally : Tally) : Type 0 where
 -- A seat made `call`. The recorder gave an answer, and the seat's part changed from `old` to `new`
 -- as this answer allows. `came` has the outcome of the answer, and the receipt if the answer has
 -- one.
-abbrev pub MakesCall : Part → Call → CallResult → Part → Type 0
+abbrev pub MakesCall : Part → RunCall → CallResult → Part → Type 0
 MakesCall old (Submit submission) came new =
     (answer : Answer Receipt) × Answered old (bio_of submission) answer new
     × (came ≡ record { outcome = outcome_of answer; receipt = receipt_in answer })
 MakesCall old (Mark text) came new =
-    (answer : MarkAnswer Receipt) × Marked old text answer new
+    (answer : MarkAnswer Receipt) × AddsMark old text answer new
     × (came ≡ record { outcome = mark_outcome answer; receipt = mark_receipt_in answer })
 
 -- A seat made these calls in order. The n-th `CallResult` is the result of the n-th call.
-abbrev pub AreMade : Part → List Call → List CallResult → Part → Type 0
+abbrev pub AreMade : Part → List RunCall → List CallResult → Part → Type 0
 AreMade old [] [] new = new ≡ old
 AreMade old [] (came ∷ others) new = ⊥
 AreMade old (call ∷ calls) [] new = ⊥
@@ -171,17 +171,17 @@ AreMade old (call ∷ calls) (came ∷ others) new =
     (between : Part) × MakesCall old call came between × AreMade between calls others new
 
 -- The calls in the lines of seat `number`, in their order.
-abbrev pub calls_of : ℕ → List SeatCall → List Call
-calls_of number [] = []
-calls_of number (line ∷ lines) =
-    if line.seat == number then line.call ∷ calls_of number lines else calls_of number lines
+abbrev pub seat_calls : ℕ → List SeatCall → List RunCall
+seat_calls number [] = []
+seat_calls number (line ∷ lines) =
+    if line.seat == number then line.call ∷ seat_calls number lines else seat_calls number lines
 
 -- A new seat `number` made the calls of its lines in order. `tally` counts their outcomes, and
 -- `receipts` are the receipts that the seat got.
 pub record IsSeatRun (lines : List SeatCall) (number : ℕ) (seat : Part) (tally : Tally)
     (receipts : List Receipt) : Type 0 where
   pub calls : List CallResult
-  pub made : AreMade (new_part number) (calls_of number lines) calls seat
+  pub made : AreMade (new_part number) (seat_calls number lines) calls seat
   pub told : tally ≡ tally_of calls
   pub kept : receipts ≡ receipts_of calls
 
@@ -190,7 +190,7 @@ pub record IsSeatRun (lines : List SeatCall) (number : ℕ) (seat : Part) (tally
 pub record HasRun (lines : List SeatCall) (tallies : List Tally) (given : List (List Receipt))
     (number : ℕ) (seat : Part) : Type 0 where
   pub tally : Tally
-  pub counted : slice_get tallies number ≡ Some tally
+  pub tally_with : slice_get tallies number ≡ Some tally
   pub receipts : List Receipt
   pub kept : slice_get given number ≡ Some receipts
   pub ran : IsSeatRun lines number seat tally receipts
@@ -198,12 +198,12 @@ pub record HasRun (lines : List SeatCall) (tallies : List Tally) (given : List (
 -- A recorder was closed with these seats and receipts, and the close returned `closed`. The
 -- recorded device has `sectors` sectors. The log's device had the properties `ground` before the
 -- log was made, and the log's sectors have `bytes` bytes.
-pub record IsClosed (ground : Ground) (bytes sectors : ℕ) (seats : List Part)
+pub record ClosesRecorder (ground : Ground) (bytes sectors : ℕ) (seats : List Part)
     (receipts : List Receipt) (closed : Closed Stack Stack) : Type 0 where
   -- the events and the seats' own lists are one legal history
   pub legal : LegalHistory bytes sectors closed.core.state.events closed.by.items seats
   pub shut : has_no_close closed.core.state.events ≡ false
-  pub counts : named closed.by.items ≡ recorded_count seats
+  pub counts : seat_count closed.by.items ≡ recorded_count seats
   pub agrees : Agrees (record {
     core = closed.core.state;
     by = closed.by.items;
@@ -228,7 +228,7 @@ pub record IsClosed (ground : Ground) (bytes sectors : ℕ) (seats : List Part)
   pub end : closed.end ≡ first_cause closed.stop closed.store_end
   pub stop : KeepsCause closed.core.state closed.stop
   pub stop_cause : HasStopCause closed.stop closed.store_end
-  pub causes : HasCause stack_does ground (stack_shown closed.log).faults closed.store_end
+  pub causes : HasEndCause stack_does ground (stack_shown closed.log).faults closed.store_end
   -- the log's sectors have `bytes` bytes, and the recorded device has `sectors` sectors
   pub sector_size : closed.core.state.sector_bytes ≡ bytes
   pub device_size : (stack_shown closed.device).size ≡ sectors
@@ -239,7 +239,7 @@ pub record IsClosed (ground : Ground) (bytes sectors : ℕ) (seats : List Part)
 -- `plan` ran: each of its seats made its calls, and then the recorder was closed. `tallies` has the
 -- tally of each seat, in their order. `status` is the log's status, `lies` counts the lies of the
 -- layers, and `image` has the bytes of the log's disk.
-pub record IsRun (plan : RunPlan) (tallies : List Tally) (status : Status) (lies : Lies)
+pub record RunsSeats (plan : RunPlan) (tallies : List Tally) (status : Status) (lies : Lies)
     (image : List ℕ) : Type 0 where
   -- each seat of the script made the calls of its lines in order
   pub seats : List Part
@@ -254,7 +254,7 @@ pub record IsRun (plan : RunPlan) (tallies : List Tally) (status : Status) (lies
   pub blank : IsStackOf plan.log_disk log
   -- the recorder was closed with all seats, and with all receipts that the seats got
   pub closed : Closed Stack Stack
-  pub close : IsClosed (ground_of (stack_shown log)) (bytes_of plan.log_size)
+  pub close : ClosesRecorder (ground_of (stack_shown log)) (bytes_of plan.log_size)
       (top_of plan.data_disk) seats (joined given) closed
   pub told : status ≡ closed.status
   pub lied : lies ≡ record {

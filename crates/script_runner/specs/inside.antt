@@ -15,7 +15,7 @@ use Rattle.recorder.specs.declared.reply.Reply.{Reply}
 use Rattle.recorder.specs.declared.reply.Reply.TheVariants as replies
 use Rattle.lock_state.specs.Comparison.{Receipt}
 use Rattle.lock_state.specs.History.{Part, new_part}
-use Rattle.dmlw_script.specs.declared.run_line.Call.{Call}
+use Rattle.dmlw_script.specs.declared.run_line.RunCall.{RunCall}
 use Rattle.dmlw_script.specs.declared.run_line.SeatCall.{SeatCall}
 use Rattle.dmlw_script.specs.Plans.{Disk, ScriptValue, top_of}
 use Rattle.dmlw_script.specs.RunPlans.{call_answer, FitsLine, RunPlan}
@@ -29,9 +29,9 @@ use Rattle.script_runner.specs.SeatRuns.{CallResult, and_kept, no_calls, MakesCa
 
 -- What is printed for the recorder's reply to a mark. `Lines` says which replies are possible.
 
-abbrev pub mark_outcome : Reply → List ℕ
-mark_outcome (replies.Refused refusal) = mark_failed
-mark_outcome _ = []
+abbrev pub mark_printed : Reply → List ℕ
+mark_printed (replies.Refused refusal) = mark_failed
+mark_printed _ = []
 
 -- What a line doesn't change, whether it succeeds or not.
 
@@ -39,8 +39,8 @@ mark_outcome _ = []
 -- requests.
 pub record StepKeeps {D L : Type 0} {d : Ghosts D} {l : Ghosts L}
     (old new : Running D L d l) : Type 0 where
-  pub moment : new.moment ≡ old.moment
-  pub log_moment : new.recorder.store.moment ≡ old.recorder.store.moment
+  pub time : new.time ≡ old.time
+  pub log_time : new.recorder.store.time ≡ old.recorder.store.time
   pub size : (d.shown new.disk).size ≡ (d.shown old.disk).size
   pub count : length new.requests.items ≡ length old.requests.items
 
@@ -53,7 +53,7 @@ pub record StartsOn {D L : Type 0} {d : Ghosts D} {l : Ghosts L} (bytes : ℕ) (
   pub disk_is : run.disk ≡ disk
   pub begun : IsNewOn bytes log run.recorder
   pub none : run.requests.items ≡ []
-  pub moment : run.moment ≡ 0
+  pub time : run.time ≡ 0
   pub short : run.short ≡ false
 
 -- `run` is a script's run before its first line, at time 0. Its data device is a stack as
@@ -63,7 +63,7 @@ pub record StartsOnStack {L : Type 0} {l : Ghosts L} (bytes : ℕ) (data_disk : 
   pub stack : IsStackOf data_disk run.disk
   pub begun : IsNewOn bytes log run.recorder
   pub none : run.requests.items ≡ []
-  pub moment : run.moment ≡ 0
+  pub time : run.time ≡ 0
   pub short : run.short ≡ false
 
 -- The lines of `plan` ran, from a run for which `Start` holds, and the output got what they print.
@@ -101,14 +101,14 @@ pub data FailsPlaying {D L : Type 0} {d : Ghosts D} {l : Ghosts L} (m : Answerin
 
 -- What contracts see of a seat that makes calls: its number, its part, the counts of its outcomes
 -- so far, and its receipts.
-pub record Player : Type 0 where
+pub record PlayerView : Type 0 where
   pub number : ℕ
   pub part : Part
   pub tally : Tally
   pub receipts : List Receipt
 
 -- A seat that hasn't made a call yet.
-abbrev pub new_player : ℕ → Player
+abbrev pub new_player : ℕ → PlayerView
 new_player number =
     record { number = number; part = new_part number; tally = no_calls; receipts = [] }
 
@@ -119,13 +119,13 @@ pub record FitsRecorder (bytes sectors : ℕ) (plan : RunPlan) : Type 0 where
   pub data_size : top_of plan.data_disk ≡ sectors
 
 -- `call` passes the check of such a recorder, and can be written in a line of a script.
-pub record CanMake (bytes sectors : ℕ) (call : Call) : Type 0 where
+pub record CanMake (bytes sectors : ℕ) (call : RunCall) : Type 0 where
   pub tested : call_answer bytes sectors call ≡ Ok tt
   pub spelled : FitsLine call
 
 -- A seat makes `call`, with this outcome, and keeps the receipt if it got one. The tally doesn't
 -- count the call yet.
-pub record Makes (call : Call) (old : Player) (outcome : Outcome) (new : Player) : Type 0 where
+pub record MakesSeatCall (call : RunCall) (old : PlayerView) (outcome : Outcome) (new : PlayerView) : Type 0 where
   pub came : CallResult
   pub made : MakesCall old.part call came new.part
   pub told : came.outcome ≡ outcome
@@ -136,7 +136,7 @@ pub record Makes (call : Call) (old : Player) (outcome : Outcome) (new : Player)
 -- A seat goes over one line. If `old` has made the calls of the seat's lines in `before`, then
 -- `new` has made those of the seat's lines in `before` and `line`. The call of `line` is made and
 -- counted only if the line is the seat's own.
-pub record DoesLine (line : SeatCall) (old new : Player) : Type 0 where
+pub record DoesLine (line : SeatCall) (old new : PlayerView) : Type 0 where
   pub number : new.number ≡ old.number
   pub ran : (before : List SeatCall) → length before < 2 ^ 64 - 1
       → IsSeatRun before old.number old.part old.tally old.receipts
@@ -144,21 +144,21 @@ pub record DoesLine (line : SeatCall) (old new : Player) : Type 0 where
 
 -- A seat goes over these lines in order. If `old` is a new seat, `new` has made the calls of its
 -- lines.
-pub record DoesLines (lines : List SeatCall) (old new : Player) : Type 0 where
+pub record DoesLines (lines : List SeatCall) (old new : PlayerView) : Type 0 where
   pub number : new.number ≡ old.number
   pub ran : (number : ℕ) → old ≡ new_player number
       → IsSeatRun lines number new.part new.tally new.receipts
 
 -- `players` are `many` seats that haven't made a call yet, in the order of their numbers.
-pub record AreNewPlayers (many : ℕ) (players : List Player) : Type 0 where
+pub record AreNewPlayers (many : ℕ) (players : List PlayerView) : Type 0 where
   pub count : length players ≡ many
-  pub each : (number : ℕ) (player : Player) → slice_get players number ≡ Some player
+  pub each : (number : ℕ) (player : PlayerView) → slice_get players number ≡ Some player
       → player ≡ new_player number
 
 -- `players` are `many` seats, and each made the calls of its lines.
-pub record HavePlayed (lines : List SeatCall) (many : ℕ) (players : List Player) : Type 0 where
+pub record HavePlayed (lines : List SeatCall) (many : ℕ) (players : List PlayerView) : Type 0 where
   pub count : length players ≡ many
-  pub each : (number : ℕ) (player : Player) → slice_get players number ≡ Some player
+  pub each : (number : ℕ) (player : PlayerView) → slice_get players number ≡ Some player
       → IsSeatRun lines number player.part player.tally player.receipts
 
 -- Why a run fails before the recorder is closed: memory ran out, the writer's thread can't be
@@ -166,4 +166,4 @@ pub record HavePlayed (lines : List SeatCall) (many : ℕ) (players : List Playe
 abbrev pub IsUnplayed : List SeatCall → ℕ → Refusal → Type 0
 IsUnplayed lines many refusal =
     (refusal ≡ refusals.Memory) ⊎ ((refusal ≡ refusals.NoThread)
-    ⊎ ((refusal ≡ refusals.Busy) × ((players : List Player) × HavePlayed lines many players)))
+    ⊎ ((refusal ≡ refusals.Busy) × ((players : List PlayerView) × HavePlayed lines many players)))

@@ -3,7 +3,7 @@ ghost use Rattle.std.specs.Prelude.{◌≡◌, Ok};
 ghost use Rattle.dmlw_script.specs.Plans.{submission_answer};
 ghost use Rattle.recorder.specs.Growth.{RecorderFrame};
 ghost use Rattle.recorder.specs.Calls.{core_of, recorder_view};
-ghost use Rattle.script_runner.specs.Lines.{Asks, RecordsEnd};
+ghost use Rattle.script_runner.specs.Lines.{BecomesRequest, RecordsEnd};
 ghost use Rattle.script_runner.specs.Submissions.{bio_of};
 
 use crate::request::{Request, bio_of};
@@ -21,9 +21,9 @@ pub(crate) fn ask<L: BlockDev + Drop>(
     submission: Submission,
 ) -> Request
     requires { submission_answer (core_of recorder.old).sector_bytes 1048576 submission ≡ Ok tt }
-    ensures asks { Asks (bio_of submission) result recorder.old recorder.new }
+    ensures asks { BecomesRequest (bio_of submission) result recorder.old recorder.new }
     ensures goes { RecorderFrame (recorder_view recorder.old) (recorder_view recorder.new) }
-    ensures log_moment { recorder.new.store.moment ≡ recorder.old.store.moment }
+    ensures log_time { recorder.new.store.time ≡ recorder.old.store.time }
 {
     let Ok(bio) = bio_of(data, submission) else {
         return Request::NotAsked;
@@ -42,7 +42,7 @@ pub(crate) fn ask<L: BlockDev + Drop>(
 pub fn complete_request<L: BlockDev + Drop>(recorder: &mut Recorder<L>, id: Option<Id>, ok: bool)
     ensures hears { RecordsEnd id ok recorder.old recorder.new }
     ensures goes { RecorderFrame (recorder_view recorder.old) (recorder_view recorder.new) }
-    ensures log_moment { recorder.new.store.moment ≡ recorder.old.store.moment }
+    ensures log_time { recorder.new.store.time ≡ recorder.old.store.time }
 {
     if let Some(id) = id {
         let _reply = recorder.event(Event::Complete { id, ok });

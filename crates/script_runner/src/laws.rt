@@ -10,7 +10,7 @@ ghost use Rattle.log_format.specs.LogOf.{IsLogOf};
 ghost use Rattle.bio.specs.Events.{has_no_close};
 ghost use Rattle.pending.specs.CoreState.{IsSound};
 ghost use Rattle.recorder.specs.Growth.{HasWholeLog, RecorderFrame, ReplaysToPossible};
-ghost use Rattle.recorder.specs.RecorderView.{log_of};
+ghost use Rattle.recorder.specs.RecorderView.{listed_entries};
 ghost use Rattle.layer_table.specs.Layers.{stack_shown};
 ghost use Rattle.script_runner.specs.DiskRun.{DiskRecorder, DiskRun, IsUnmade, Starts};
 ghost use Rattle.refusals.specs.declared.run_error.RunError.{RunError};
@@ -21,7 +21,7 @@ ghost use Rattle.recorder.specs.Calls.{core_of, recorder_view};
 ghost use Rattle.bio.specs.Content.{Content};
 ghost use Rattle.std.specs.List.{AllZip};
 ghost use Rattle.script_runner.specs.declared.request.Request.{Request};
-ghost use Rattle.script_runner.specs.Runs.{IsWritten, submissions_of, RunsLines};
+ghost use Rattle.script_runner.specs.Runs.{LogIsWritten, submissions_of, RunsLines};
 ghost use Rattle.script_runner.specs.Runs.{TrackedAreRecorded, IsRequestOf};
 ghost use Rattle.script_runner.specs.Lines.{answering, RecordsMark};
 
@@ -49,7 +49,7 @@ pub fn headline()
     ensures { (old new : DiskRecorder) (left : Content)
         → RecorderFrame (recorder_view old) (recorder_view new) →
         (stack_shown new.store.device).lies ≡ 0
-        → (stack_shown new.store.device).since (stack_shown old.store.device).moment left →
+        → (stack_shown new.store.device).since (stack_shown old.store.device).clock left →
         ReplaysToPossible (recorder_view old) (recorder_view new) left }
 {
     recorder::laws::crashed_logs_replay_to_what_could_be::<Stack>();
@@ -80,12 +80,12 @@ pub fn lines_go_as_one_call<D: Message + Drop, L: Message + Drop>()
 /// line calls its device at the time that the last `at` set.
 pub fn both_devices_are_called_at_one_time<D: Message + Drop, L: Message + Drop>()
     ensures start { (plan : ScriptValue) (run : DiskRun) → Starts plan run
-        → run.recorder.store.moment ≡ run.moment }
+        → run.recorder.store.time ≡ run.time }
     ensures lines { (names : List ScriptId) (body : List Command) (text : List ℕ)
         (old new : Running D L D.BlockDev L.BlockDev) →
         RunsLines (answering D.answers L.answers) names body text old new
-        → old.recorder.store.moment ≡ old.moment →
-        new.recorder.store.moment ≡ new.moment }
+        → old.recorder.store.time ≡ old.time →
+        new.recorder.store.time ≡ new.time }
 {}
 
 /// Each line that submits adds one request to the run, in the order of the lines. It is the request
@@ -124,11 +124,11 @@ pub fn crashes_of_a_run_leave_prefixes<D: Message + Drop, L: Message + Drop>()
         RunsLines (answering D.answers L.answers) names body text old new
         → (recorder_view new.recorder).store.device.lies ≡ 0 →
         (recorder_view new.recorder).store.device.since
-        (recorder_view old.recorder).store.device.moment left →
+        (recorder_view old.recorder).store.device.clock left →
         (count : ℕ) × (old.recorder.store.settled ≤ count)
-        × (count ≤ length (log_of (core_of new.recorder)))
+        × (count ≤ length (listed_entries (core_of new.recorder)))
         × IsLogOf (recorder_view new.recorder).store.device.size left
-        (core_of new.recorder).sector_bytes (take count (log_of (core_of new.recorder))) }
+        (core_of new.recorder).sector_bytes (take count (listed_entries (core_of new.recorder))) }
 {
     lines_go_as_one_call::<D, L>();
     recorder::laws::crashes_leave_prefixes::<L>();
@@ -141,11 +141,11 @@ pub fn crashes_of_a_run_leave_prefixes<D: Message + Drop, L: Message + Drop>()
 pub fn closed_runs_leave_whole_logs<D: Message + Drop, L: Message + Drop>()
     ensures placed { (names : List ScriptId) (body : List Command) (text : List ℕ)
         (old new : Running D L D.BlockDev L.BlockDev) →
-        RunsLines (answering D.answers L.answers) names body text old new → IsWritten old.recorder
-        → IsWritten new.recorder }
+        RunsLines (answering D.answers L.answers) names body text old new → LogIsWritten old.recorder
+        → LogIsWritten new.recorder }
     ensures whole { (names : List ScriptId) (body : List Command) (text : List ℕ)
         (old new : Running D L D.BlockDev L.BlockDev) →
-        RunsLines (answering D.answers L.answers) names body text old new → IsWritten old.recorder
+        RunsLines (answering D.answers L.answers) names body text old new → LogIsWritten old.recorder
         → IsSound (core_of new.recorder) → new.recorder.end ≡ None →
         has_no_close (core_of new.recorder).events ≡ false
         → (recorder_view new.recorder).store.device.lies ≡ 0 →

@@ -175,7 +175,7 @@ pub fn stack_over(alloc: Global, bare: SectorDisk, disk: &DiskSpec) -> Stack
     ensures layers { layers_of result ≡ layers_under disk.now.layers 0 [] }
     ensures over { AreOver disk.now.layers (shown_of bare) (stack_shown result) }
 {
-    match Stack::new(bare).under(alloc, disk.layers(), Ms::new(0)) {
+    match Stack::new(bare).layered(alloc, disk.layers(), Ms::new(0)) {
         Ok(stack) => stack,
         Err(_) => unreachable!("the layers of a script's disk fit on it"),
     }

@@ -4,9 +4,9 @@ ghost use Rattle.std.specs.List.{AllByRecursion};
 ghost use Rattle.std.specs.Io.KnownBytes.{Appends};
 ghost use Rattle.dmlw_script.specs.Plans.{IsName, name_at};
 ghost use Rattle.dmlw_script.specs.Words.{hex_digit};
-ghost use Rattle.script_runner.specs.Lines.{StopsForFile, first_bytes, outcome_line, outcome_word};
+ghost use Rattle.script_runner.specs.Lines.{StopsForFile, printed_bytes, outcome_line, outcome_word};
 ghost use Rattle.script_runner.specs.Lines.{read_line, submission_text};
-ghost use Rattle.script_runner.specs.inside.{mark_outcome};
+ghost use Rattle.script_runner.specs.inside.{mark_printed};
 
 use crate::request::Request;
 use crate::step_error::StepError;
@@ -53,7 +53,7 @@ pub(crate) fn print_outcome<O: Write>(
 // Prints that a mark failed, if the recorder refused it because memory ran out.
 pub(crate) fn print_mark<O: Write>(reply: Reply, out: &mut O) -> Result<(), StepError>
     ensures output { OnOk result
-        (Appends (O.contents out.old) (O.contents out.new) (mark_outcome reply)) }
+        (Appends (O.contents out.old) (O.contents out.new) (mark_printed reply)) }
     ensures faults { IfErr result StopsForFile }
 {
     match reply {
@@ -89,7 +89,7 @@ pub(crate) fn print_read<O: Write>(
 fn print_first_bytes<O: Write>(count: u64, bytes: &[u8], out: &mut O) -> Result<(), StepError>
     requires { length bytes.now ≡ count * 512 }
     ensures output { OnOk result
-        (Appends (O.contents out.old) (O.contents out.new) (first_bytes count bytes.now)) }
+        (Appends (O.contents out.old) (O.contents out.new) (printed_bytes count bytes.now)) }
     ensures faults { IfErr result StopsForFile }
 {
     for sector in 0..count {

@@ -28,7 +28,7 @@ pub struct Running<D: BlockDev + Drop, L: BlockDev + Drop> {
     write_data: WriteData,
     requests: Vec<Request>,
     // The time of the next calls of both devices.
-    moment: Ms,
+    time: Ms,
     // Whether memory ran out for a mark, for the log's writer, or for a data device's call other
     // than a read. If memory runs out for a submission, its request is `NotAsked` instead.
     short: bool,
@@ -49,7 +49,7 @@ impl<D: BlockDev + Drop, L: BlockDev + Drop> Running<D, L> {
     ) -> Result<Running<D, L>, AllocError>
         ensures made { IfOk result
             (λ run. (run.recorder ≡ recorder) × (run.disk ≡ disk) × (run.requests.items ≡ [])
-            × (run.moment ≡ 0) × (run.short ≡ false)) }
+            × (run.time ≡ 0) × (run.short ≡ false)) }
     {
         Ok(Running {
             alloc,
@@ -57,12 +57,11 @@ impl<D: BlockDev + Drop, L: BlockDev + Drop> Running<D, L> {
             disk,
             write_data: WriteData::none(alloc),
             requests: Vec::with_capacity(alloc, requests)?,
-            moment: Ms::new(0),
+            time: Ms::new(0),
             short: false,
         })
     }
 
-    /// Returns the recorder.
     pub fn recorder(&self) -> &Recorder<L>
         ensures { result.now ≡ self.now.recorder }
     {
@@ -101,10 +100,10 @@ impl<D: Message + Drop, L: Message + Drop> Running<D, L> {
     ghost use Rattle.recorder.specs.Growth.{RecorderFrame};
     ghost use Rattle.script_runner.specs.declared.step_error.StepError.TheVariants.{AtLine};
     ghost use Rattle.script_runner.specs.Lines.{EndsRecording, EndsSubmitted, FitsDevice};
-    ghost use Rattle.script_runner.specs.Lines.{GivesTurn, HasScriptText, PrintsLine, ReadsData};
+    ghost use Rattle.script_runner.specs.Lines.{GivesTurn, HasScriptText, PrintsLine, PrintsData};
     ghost use Rattle.script_runner.specs.Lines.{RefusesMessage, SetsTime, StopsForFile};
     ghost use Rattle.script_runner.specs.Lines.{StopsLine, SendsToLayer, RecordsMark, answering};
-    ghost use Rattle.script_runner.specs.Lines.{count_of};
+    ghost use Rattle.script_runner.specs.Lines.{submission_count};
     ghost use Rattle.script_runner.specs.inside.{StepKeeps};
 
     // Submits the next request, and prints that it failed if memory ran out.
@@ -156,7 +155,7 @@ impl<D: Message + Drop, L: Message + Drop> Running<D, L> {
         match &self.requests[request] {
             Request::NotAsked => Ok(()),
             Request::Asked { bio, id } => {
-                let answer = do_request(&mut self.disk, self.moment, bio);
+                let answer = do_request(&mut self.disk, self.time, bio);
                 let ok = answer.is_ok();
                 self.short |= is_out_of_memory(&answer);
                 complete_request(&mut self.recorder, *id, ok);
@@ -170,7 +169,7 @@ impl<D: Message + Drop, L: Message + Drop> Running<D, L> {
     fn read<O: Write>(&mut self, first: u64, count: u64, out: &mut O) -> Result<(), StepError>
         requires { range_answer first count (D.shown self.old.disk).size ≡ Ok tt }
         ensures keeps { StepKeeps self.old self.new }
-        ensures runs { OnOk result ((text : List ℕ) × ReadsData first count text self.old self.new
+        ensures runs { OnOk result ((text : List ℕ) × PrintsData first count text self.old self.new
             × Appends (O.contents out.old) (O.contents out.new) text) }
         ensures faults { IfErr result StopsForFile }
         ensures goes { RecorderFrame (recorder_view self.old.recorder)
@@ -179,7 +178,7 @@ impl<D: Message + Drop, L: Message + Drop> Running<D, L> {
         // For the prover: `RecorderFrame` holds for no call of the recorder, and for two if it
         // holds for each.
         laws::several_calls_go_as_one::<L>();
-        let bytes = read_sectors(&mut self.disk, self.alloc, self.moment, first, count);
+        let bytes = read_sectors(&mut self.disk, self.alloc, self.time, first, count);
         print_read(first, count, &bytes, out)
     }
 
@@ -211,17 +210,17 @@ impl<D: Message + Drop, L: Message + Drop> Running<D, L> {
     }
 
     // Sets the time of the later calls of both devices.
-    fn set_moment(&mut self, moment: Ms)
-        ensures sets { SetsTime moment [] self.old self.new }
-        ensures moment { self.new.moment ≡ moment }
-        ensures log_moment { self.new.recorder.store.moment ≡ moment }
+    fn set_time(&mut self, time: Ms)
+        ensures sets { SetsTime time [] self.old self.new }
+        ensures time { self.new.time ≡ time }
+        ensures log_time { self.new.recorder.store.time ≡ time }
         ensures goes { RecorderFrame (recorder_view self.old.recorder)
             (recorder_view self.new.recorder) }
         ensures size { (D.shown self.new.disk).size ≡ (D.shown self.old.disk).size }
         ensures count { length self.new.requests.items ≡ length self.old.requests.items }
     {
-        self.recorder.set_now(moment);
-        self.moment = moment;
+        self.recorder.set_now(time);
+        self.time = time;
     }
 
     // Closes recording. Then the writer takes turns until the log is complete or logging ends.
@@ -294,7 +293,7 @@ impl<D: Message + Drop, L: Message + Drop> Running<D, L> {
         ensures size { (D.shown self.new.disk).size ≡ (D.shown self.old.disk).size }
         ensures count { OnOk result
             (length self.new.requests.items
-            ≡ length self.old.requests.items + count_of command.now) }
+            ≡ length self.old.requests.items + submission_count command.now) }
     {
         match command {
             Command::Submit(submission) => self.submit(*submission, names, out),
@@ -308,8 +307,8 @@ impl<D: Message + Drop, L: Message + Drop> Running<D, L> {
                     self.turn();
                     Ok(())
                 }
-                Step::At { moment } => {
-                    self.set_moment(*moment);
+                Step::At { time } => {
+                    self.set_time(*time);
                     Ok(())
                 }
             },

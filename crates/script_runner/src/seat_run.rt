@@ -2,7 +2,7 @@
 //! recorder.
 ghost use Rattle.std.specs.Prelude.{◌≡◌, ◌<◌, IfErr, IfOk, length, map};
 ghost use Rattle.lock_state.specs.PlacedItems.{ground_of};
-ghost use Rattle.script_runner.specs.SeatRuns.{FailsRun, IsClosed, IsRun, IsUnclosed, joined};
+ghost use Rattle.script_runner.specs.SeatRuns.{FailsRun, ClosesRecorder, RunsSeats, IsUnclosed, joined};
 ghost use Rattle.dmlw_script.specs.RunPlans.{IsRunPlan};
 ghost use Rattle.layer_table.specs.Layers.{disk_of, stack_does, stack_shown};
 ghost use Rattle.refusals.specs.declared.run_error.RunError.TheVariants.{LoggingEnded};
@@ -57,7 +57,7 @@ pub fn run_seats<H: Threads + Wait + Sync>(
     script: &RunScript,
 ) -> Result<Ran, RunError>
     ensures ran { IfOk result (λ ran.
-        IsRun script.now ran.tallies.items ran.status ran.lies
+        RunsSeats script.now ran.tallies.items ran.status ran.lies
         (gather (shown_of ran.disk).content 0 (shown_of ran.disk).size)) }
     ensures faults { IfErr result (FailsRun script.now) }
 {
@@ -89,9 +89,9 @@ fn run_on<R: Run + Names + Send + Sync, H: Threads + Wait + Sync>(
     requires log { IsStackOf script.now.log_disk log }
     requires ground { R.log ≡ ground_of (stack_shown log) }
     requires begins { (made : Stack) → IsCreated stack_does R.sector_bytes log made
-        → R.begins (stack_shown made).moment }
+        → R.begins (stack_shown made).clock }
     ensures ran { IfOk result (λ ran.
-        IsRun script.now ran.tallies.items ran.status ran.lies
+        RunsSeats script.now ran.tallies.items ran.status ran.lies
         (gather (shown_of ran.disk).content 0 (shown_of ran.disk).size)) }
     ensures faults { IfErr result (FailsRun script.now) }
 {
@@ -130,7 +130,7 @@ fn start<R: Run + Names>(
     requires log { IsStackOf script.now.log_disk log }
     requires ground { R.log ≡ ground_of (stack_shown log) }
     requires begins { (made : Stack) → IsCreated stack_does R.sector_bytes log made
-        → R.begins (stack_shown made).moment }
+        → R.begins (stack_shown made).clock }
     ensures seats { IfOk result (λ started. AreNewSeats script.now.seats started.seats.items) }
     ensures faults { IfErr result (FailsRun script.now) }
 {
@@ -198,7 +198,6 @@ fn parts_of<R: Run + Names>(alloc: Global, works: Vec<Work<R>>) -> Result<Parts<
     })
 }
 
-// Closes the recorder with all seats and all receipts.
 fn close<R: Run + Names>(
     recorder: Shared<Stack, Stack, R>,
     writer: WriterSeat<R>,
@@ -207,14 +206,14 @@ fn close<R: Run + Names>(
 ) -> Result<Closed<Stack, Stack>, Refusal>
     requires { (length seats.items ≡ R.parts) × (0 < R.parts) }
     ensures closed { IfOk result
-        (IsClosed R.log R.sector_bytes R.sectors seats.items receipts.items) }
+        (ClosesRecorder R.log R.sector_bytes R.sectors seats.items receipts.items) }
     ensures refused { IfErr result (IsUnclosed seats.items receipts.items) }
 {
     match recorder.close(seats, writer, receipts) {
         Ok(
             Ending {
                 closed,
-                posts: _,
+                published: _,
                 released: _,
                 written: _,
                 found: _,

@@ -1,10 +1,10 @@
 //! The calls that a thread makes at its seat.
 ghost use Rattle.std.specs.Prelude.{◌≡◌, ◌==◌, ◌<◌, Ok, true, vec_capacity, vec_len};
-ghost use Rattle.dmlw_script.specs.declared.run_line.Call.TheVariants.{Mark, Submit};
+ghost use Rattle.dmlw_script.specs.declared.run_line.RunCall.TheVariants.{Mark, Submit};
 ghost use Rattle.dmlw_script.specs.Plans.{submission_answer};
 ghost use Rattle.dmlw_script.specs.Words.{is_line_text};
 ghost use Rattle.lock_state.specs.History.{new_part};
-ghost use Rattle.script_runner.specs.inside.{CanMake, DoesLine, DoesLines, FitsRecorder, Makes};
+ghost use Rattle.script_runner.specs.inside.{CanMake, DoesLine, DoesLines, FitsRecorder, MakesSeatCall};
 ghost use Rattle.script_runner.specs.inside.{new_player};
 ghost use Rattle.script_runner.specs.SeatRuns.{and_kept, mark_receipt_in, receipt_in};
 
@@ -14,7 +14,7 @@ use crate::write_data::WriteData;
 use bio::Ms;
 use blockdev::BlockDev;
 use board::Names;
-use dmlw_script::{Call, RunScript, SeatCall, Submission};
+use dmlw_script::{RunCall, RunScript, SeatCall, Submission};
 use lock_state::{Receipt, Run, Seat};
 use shared::{Answer, MarkAnswer, Shared};
 use std::alloc::Global;
@@ -22,7 +22,7 @@ use std::marker::Model;
 use std::sync::Wait;
 
 /// A seat, with the counts of its outcomes and its receipts so far. Its value in contracts is a
-/// `Player`.
+/// `PlayerView`.
 #[derive(Drop)]
 pub struct Work<R: Run + Names> {
     pub(crate) number: u64,
@@ -34,9 +34,9 @@ pub struct Work<R: Run + Names> {
 }
 
 impl<R: Run + Names> Model for Work<R> {
-    ghost use Rattle.script_runner.specs.inside.{Player};
+    ghost use Rattle.script_runner.specs.inside.{PlayerView};
 
-    ghost Value = { Player };
+    ghost Value = { PlayerView };
 
     ghost view = { λ w. record {
       number = w.number;
@@ -99,15 +99,15 @@ impl<R: Run + Names> Work<R> {
     fn make<D: BlockDev + Drop, L: BlockDev + Drop, H: Wait>(
         &mut self,
         rt: &H,
-        call: &Call,
+        call: &RunCall,
         recorder: &Shared<D, L, R>,
     ) -> Outcome
         requires { CanMake R.sector_bytes R.sectors call.now }
-        ensures made { Makes call.now self.old result self.new }
+        ensures made { MakesSeatCall call.now self.old result self.new }
     {
         match call {
-            Call::Submit(submission) => self.submit(rt, *submission, recorder),
-            Call::Mark { text } => self.mark(rt, text.as_slice(), recorder),
+            RunCall::Submit(submission) => self.submit(rt, *submission, recorder),
+            RunCall::Mark { text } => self.mark(rt, text.as_slice(), recorder),
         }
     }
 
@@ -121,7 +121,7 @@ impl<R: Run + Names> Work<R> {
         recorder: &Shared<D, L, R>,
     ) -> Outcome
         requires { submission_answer R.sector_bytes R.sectors submission ≡ Ok tt }
-        ensures made { Makes (Submit submission) self.old result self.new }
+        ensures made { MakesSeatCall (Submit submission) self.old result self.new }
     {
         if self.receipts.reserve(1).is_err() {
             return Outcome::Failed;
@@ -144,7 +144,7 @@ impl<R: Run + Names> Work<R> {
         recorder: &Shared<D, L, R>,
     ) -> Outcome
         requires { is_line_text text.now ≡ true }
-        ensures made { Makes (Mark text.now) self.old result self.new }
+        ensures made { MakesSeatCall (Mark text.now) self.old result self.new }
     {
         if self.receipts.reserve(1).is_err() {
             return Outcome::Refused;
@@ -188,7 +188,6 @@ fn receipt_of<C: Drop>(answer: Answer<C>) -> Option<C>
     }
 }
 
-// Returns the receipt in the answer to a mark, if there is one.
 fn mark_receipt<C: Drop>(answer: MarkAnswer<C>) -> Option<C>
     ensures { result ≡ mark_receipt_in answer }
 {

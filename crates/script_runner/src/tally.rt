@@ -1,6 +1,6 @@
 //! The outcomes of a seat's calls, and their counts.
 ghost use Rattle.std.specs.Prelude.{◌≡◌, ◌+◌, ◌-◌, ◌^◌, ◌<◌, ◌≤◌};
-ghost use Rattle.script_runner.specs.SeatRuns.{HasRoom, counted, mark_outcome, no_calls};
+ghost use Rattle.script_runner.specs.SeatRuns.{TallyHasRoom, tally_with, mark_outcome, no_calls};
 ghost use Rattle.script_runner.specs.SeatRuns.{outcome_of};
 
 use lock_state::{Receipt, Run};
@@ -73,7 +73,7 @@ impl Tally {
 
     // Counts one more call. Each count stops at 2^64 - 1.
     pub(crate) fn count(&mut self, outcome: Outcome)
-        ensures { HasRoom self.old → self.new ≡ counted self.old outcome }
+        ensures { TallyHasRoom self.old → self.new ≡ tally_with self.old outcome }
     {
         match outcome {
             Outcome::Done => self.done = one_more(self.done),

@@ -36,7 +36,6 @@ impl WriteData {
         }
     }
 
-    /// Returns the data of a write of `count` sectors, in which each byte is `byte`.
     pub fn sectors_of(&mut self, count: u64, byte: u8) -> Result<Bytes, AllocError>
         requires { count ≤ 2048 }
         ensures { IfOk result (λ bytes. bytes ≡ replicate (count * 512) byte) }
@@ -62,7 +61,6 @@ impl WriteData {
     }
 }
 
-// Returns the first `count` bytes of the row of `byte`.
 fn first_of(rows: &[Bytes], byte: u8, count: usize) -> Result<Bytes, AllocError>
     requires filled { AreFilled rows.now }
     requires row { HasRow count byte rows.now }

@@ -10,65 +10,65 @@ use Rattle.blockdev.specs.Law.{DeviceFrame, WriteDone}
 use Rattle.blockdev.specs.View.{View}
 use Rattle.sector_disk.specs.CandidateLaws.{content_whole, goes_flush, goes_puts, is_current}
 use Rattle.sector_disk.specs.CandidateLaws.{lands_puts, left-kept, picks_leave_one, since-during}
-use Rattle.sector_disk.specs.Candidates.{Cache, Flushes, LeftSince, MayLeave, Puts, Step}
+use Rattle.sector_disk.specs.Candidates.{Cache, Flushes, LeftSince, MayLeave, Puts, PastStep}
 use Rattle.sector_disk.specs.Candidates.{cache_after, candidates_after, left_by, view_of}
-use Rattle.sector_disk.specs.declared.call.Call.{Call}
+use Rattle.sector_disk.specs.declared.call.PastCall.{PastCall}
 use Rattle.sector_disk.specs.declared.disk.SectorDisk.{SectorDisk}
 use Rattle.sector_disk.specs.DiskView.{HasPast, cache_of, flushed_after, shown_of, start_of}
 use Rattle.sector_disk.specs.DiskView as shown
-use Rattle.sector_disk.specs.inside.Storage.{content_at, past_of, step_after, steps_of}
+use Rattle.sector_disk.specs.inside.Storage.{content_at, past_of, step_after, stored_steps}
 
-moved : (P : View → Type 0) (old new : SectorDisk) (past : List Step) → HasPast old new past
+moved : (P : View → Type 0) (old new : SectorDisk) (past : List PastStep) → HasPast old new past
     → P (view_of old.sectors (start_of old) past) → P (shown_of new)
 moved P old new past has holds = grind arith
 
 pub goes_past : (old new : SectorDisk) (patch : Patch) (fua : Bool)
-    → HasPast old new (Puts patch fua ∷ shown.steps_of old)
+    → HasPast old new (Puts patch fua ∷ shown.past_steps old)
     → DeviceFrame patch (shown_of old) (shown_of new)
 goes_past old new patch fua has =
     moved (λ w. DeviceFrame patch (shown_of old) w) old new
-    (Puts patch fua ∷ shown.steps_of old) has
-    (goes_puts old.sectors (start_of old) (shown.steps_of old) patch fua)
+    (Puts patch fua ∷ shown.past_steps old) has
+    (goes_puts old.sectors (start_of old) (shown.past_steps old) patch fua)
 
 pub lands_past : (old new : SectorDisk) (patch : Patch) (fua : Bool)
-    → HasPast old new (Puts patch fua ∷ shown.steps_of old)
+    → HasPast old new (Puts patch fua ∷ shown.past_steps old)
     → WriteDone patch fua (shown_of old) (shown_of new)
 lands_past old new patch fua has =
     moved (λ w. WriteDone patch fua (shown_of old) w) old new
-    (Puts patch fua ∷ shown.steps_of old) has
-    (lands_puts old.sectors (start_of old) (shown.steps_of old) patch fua)
+    (Puts patch fua ∷ shown.past_steps old) has
+    (lands_puts old.sectors (start_of old) (shown.past_steps old) patch fua)
 
-pub goes_unchanged : (old new : SectorDisk) (patch : Patch) → HasPast old new (shown.steps_of old)
+pub goes_unchanged : (old new : SectorDisk) (patch : Patch) → HasPast old new (shown.past_steps old)
     → DeviceFrame patch (shown_of old) (shown_of new)
 goes_unchanged old new patch has =
-    moved (λ w. DeviceFrame patch (shown_of old) w) old new (shown.steps_of old) has
+    moved (λ w. DeviceFrame patch (shown_of old) w) old new (shown.past_steps old) has
     (goes_none patch (shown_of old))
 
 pub written_past : (old new : SectorDisk) (first : ℕ) (kept bytes : List ℕ) (fua : Bool)
     → kept ≡ bytes
-    → HasPast old new (Puts (writes first kept) fua ∷ shown.steps_of old)
-    → HasPast old new (Puts (writes first bytes) fua ∷ shown.steps_of old)
+    → HasPast old new (Puts (writes first kept) fua ∷ shown.past_steps old)
+    → HasPast old new (Puts (writes first bytes) fua ∷ shown.past_steps old)
 written_past old new first kept bytes fua same has = grind arith
 
-no_flush_last : (calls : List Call) (begun n : ℕ)
-    → flushed_after (steps_of calls begun n) ≡ Flushes ∷ steps_of calls begun n
+no_flush_last : (calls : List PastCall) (begun n : ℕ)
+    → flushed_after (stored_steps calls begun n) ≡ Flushes ∷ stored_steps calls begun n
 no_flush_last calls begun zero = refl
 no_flush_last calls begun (suc n) = at (slice_get calls (begun + n)) (no_flush_last calls begun n)
   where
-    at : (o : Option Call) → flushed_after (steps_of calls begun n)
-        ≡ Flushes ∷ steps_of calls begun n
-        → flushed_after (step_after o (steps_of calls begun n))
-        ≡ Flushes ∷ step_after o (steps_of calls begun n)
+    at : (o : Option PastCall) → flushed_after (stored_steps calls begun n)
+        ≡ Flushes ∷ stored_steps calls begun n
+        → flushed_after (step_after o (stored_steps calls begun n))
+        ≡ Flushes ∷ step_after o (stored_steps calls begun n)
     at None earlier = earlier
     at (Some call) earlier = refl
 
 -- if the past already ends with a flush, another flush adds no step
-pub past_flushed : (calls : List Call) (begun : ℕ) (flushed : Bool)
+pub past_flushed : (calls : List PastCall) (begun : ℕ) (flushed : Bool)
     → past_of calls begun true ≡ flushed_after (past_of calls begun flushed)
 past_flushed calls begun true = refl
 past_flushed calls begun false = sym (no_flush_last calls begun (length calls - begun))
 
-pub goes_flushed : (size : ℕ) (calls : List Call) (base : List ℕ) (begun : ℕ) (flushed : Bool)
+pub goes_flushed : (size : ℕ) (calls : List PastCall) (base : List ℕ) (begun : ℕ) (flushed : Bool)
     → DeviceFrame nothing (view_of size (content_at calls base) (past_of calls begun flushed))
     (view_of size (content_at calls base) (past_of calls begun true))
 goes_flushed size calls base begun true =
@@ -76,7 +76,7 @@ goes_flushed size calls base begun true =
 goes_flushed size calls base begun false =
     goes_flush size (content_at calls base) (past_of calls begun false)
 
-pub read_of : (disk : SectorDisk) (calls : List Call) (newest buffer : List ℕ) (first n : ℕ)
+pub read_of : (disk : SectorDisk) (calls : List PastCall) (newest buffer : List ℕ) (first n : ℕ)
     → calls ≡ disk.calls.items → newest ≡ disk.newest.items
     → first + n ≤ disk.sectors → buffer ≡ gather (content_at calls newest) first n
     → buffer ≡ gather (cache_of disk).now first n
@@ -88,7 +88,7 @@ pub record IsGiven (disk : SectorDisk) (image : List ℕ) : Type 0 where
   pub sectors : AgreeBelow (shown_of disk).size (shown_of disk).content (sector_of image)
   pub length : length image ≡ 512 * (shown_of disk).size
 
-pub given_of : (disk : SectorDisk) (calls : List Call) (newest image : List ℕ) (n : ℕ)
+pub given_of : (disk : SectorDisk) (calls : List PastCall) (newest image : List ℕ) (n : ℕ)
     → calls ≡ disk.calls.items → newest ≡ disk.newest.items
     → n ≡ disk.sectors → image ≡ gather (content_at calls newest) 0 n → IsGiven disk image
 given_of disk calls newest image n same_calls same_newest count is =
@@ -105,52 +105,52 @@ given_of disk calls newest image n same_calls same_newest count is =
           (omega arith);
     }
 
-cache_by : (old new : SectorDisk) (past : List Step) → HasPast old new past
+cache_by : (old new : SectorDisk) (past : List PastStep) → HasPast old new past
     → cache_of new ≡ cache_after (start_of old) past
 cache_by old new past has = grind arith
 
 pub picks_leave : (disk : SectorDisk) (picks : List ℕ)
     → MayLeave (cache_of disk) (left_by (cache_of disk) picks)
 picks_leave disk picks =
-    picks_leave_one (cache_of disk) picks (is_current (start_of disk) (shown.steps_of disk))
+    picks_leave_one (cache_of disk) picks (is_current (start_of disk) (shown.past_steps disk))
 
 pub old-left : (old new : SectorDisk) (patch : Patch) (left : Content)
-    → HasPast old new (Puts patch false ∷ shown.steps_of old)
+    → HasPast old new (Puts patch false ∷ shown.past_steps old)
     → MayLeave (cache_of old) left → MayLeave (cache_of new) left
 old-left old new patch left has may =
     let May : Cache → Type 0 = λ cache. MayLeave cache left in
-    subst May (sym (cache_by old new (Puts patch false ∷ shown.steps_of old) has))
+    subst May (sym (cache_by old new (Puts patch false ∷ shown.past_steps old) has))
     (left-kept patch (cache_of old) left may)
 
 -- a crash during the call may leave the call's new values in only some of its sectors
 pub torn-left : (old new : SectorDisk) (patch : Patch) (fua : Bool) (before left : Content)
-    → HasPast old new (Puts patch fua ∷ shown.steps_of old) → MayLeave (cache_of old) before
+    → HasPast old new (Puts patch fua ∷ shown.past_steps old) → MayLeave (cache_of old) before
     → Patched patch before left
-    → LeftSince (start_of new) (shown.steps_of new) (length (shown.steps_of old)) left
+    → LeftSince (start_of new) (shown.past_steps new) (length (shown.past_steps old)) left
 torn-left old new patch fua before left has may patched =
-    let Since : Content → List Step → Type 0 =
-    λ start past. LeftSince start past (length (shown.steps_of old)) left in
+    let Since : Content → List PastStep → Type 0 =
+    λ start past. LeftSince start past (length (shown.past_steps old)) left in
     let during_it =
-    since-during (start_of old) (Puts patch fua) (shown.steps_of old) left
+    since-during (start_of old) (Puts patch fua) (shown.past_steps old) left
     (before, may, patched) in
-    subst (λ (past : List Step). Since (start_of new) past) (sym has.past)
-    (subst (λ (start : Content). Since start (Puts patch fua ∷ shown.steps_of old))
+    subst (λ (past : List PastStep). Since (start_of new) past) (sym has.past)
+    (subst (λ (start : Content). Since start (Puts patch fua ∷ shown.past_steps old))
     (sym has.start) during_it)
 
 pub may-put : (old new : SectorDisk) (patch : Patch) (fua : Bool) (sector : ℕ) (value : List ℕ)
-    → HasPast old new (Puts patch fua ∷ shown.steps_of old)
+    → HasPast old new (Puts patch fua ∷ shown.past_steps old)
     → patch sector ≡ Some value
     → (cache_of new).may sector ≡ candidates_after (Some value) fua ((cache_of old).may sector)
 may-put old new patch fua sector value has is = grind (arith, cache_by)
 
 pub may-flushed : (old new : SectorDisk) (sector : ℕ)
-    → HasPast old new (flushed_after (shown.steps_of old))
+    → HasPast old new (flushed_after (shown.past_steps old))
     → (cache_of new).may sector ≡ (cache_of old).now sector ∷ []
 may-flushed old new sector has =
     ap (λ (cache : Cache). cache.may sector)
-    (cache_by old new (flushed_after (shown.steps_of old)) has) ∙ at (shown.steps_of old)
+    (cache_by old new (flushed_after (shown.past_steps old)) has) ∙ at (shown.past_steps old)
   where
-    at : (past : List Step) → (cache_after (start_of old) (flushed_after past)).may sector
+    at : (past : List PastStep) → (cache_after (start_of old) (flushed_after past)).may sector
         ≡ (cache_after (start_of old) past).now sector ∷ []
     at [] = refl
     at (Flushes ∷ past) = refl

@@ -1,4 +1,4 @@
--- Each call, each flush and each crash keeps the invariant of a disk's fields (`IsKept`).
+-- Each call, each flush and each crash keeps the invariant of a disk's fields (`IsStorage`).
 use Rattle.std.proofs.Common.{◌≡◌, ℕ, suc, zero, ◌+◌, ◌-◌, ◌/◌, ◌<◌, ◌≤◌, ◌&&◌, Bool, true, false}
 use Rattle.std.proofs.Common.{Some, None, List, [], ◌∷◌, ◌++◌, length, take, drop, replicate, refl}
 use Rattle.std.proofs.Common.{ap, subst, sym, ◌∙◌, inl, inr, arith}
@@ -10,15 +10,15 @@ use Rattle.std.specs.Prelude.{◌⊎◌, Option, not, nat_le, nat_lt, slice_get,
 use Rattle.bio.specs.Content.{Content, over, sector_of}
 use Rattle.bio.specs.ContentLaws.{over-after, over-before, over-in}
 use Rattle.bio.specs.PlaceLaws.{length-snoc, slice_get-append_front, slice_get-append_here}
-use Rattle.sector_disk.specs.declared.call.Call.{Call}
-use Rattle.sector_disk.specs.declared.call.Change.{Change}
-use Rattle.sector_disk.specs.declared.call.Change.TheVariants.{Write, Image, Discard}
+use Rattle.sector_disk.specs.declared.call.PastCall.{PastCall}
+use Rattle.sector_disk.specs.declared.call.PastChange.{PastChange}
+use Rattle.sector_disk.specs.declared.call.PastChange.TheVariants.{Write, Image, Discard}
 use Rattle.sector_disk.specs.Candidates.{Cache, Puts, cache_after, candidates_after}
-use Rattle.sector_disk.specs.inside.Storage.{value_at, values_of, is_table, past_of, place_of}
-use Rattle.sector_disk.specs.inside.Storage.{steps_of, content_at, is_chain, is_open, is_plain}
-use Rattle.sector_disk.specs.inside.Storage.{before_at, before_in, cache_of, change_values}
-use Rattle.sector_disk.specs.inside.Storage.{AreWithin, ArePlaced, IsKept, IsPlaced, back, IsFilled}
-use Rattle.sector_disk.specs.inside.Storage.{count_of}
+use Rattle.sector_disk.specs.inside.Storage.{value_at, change_values_of, is_table, past_of, place_of}
+use Rattle.sector_disk.specs.inside.Storage.{stored_steps, content_at, is_chain, is_open, is_plain}
+use Rattle.sector_disk.specs.inside.Storage.{before_at, before_in, stored_cache, change_values}
+use Rattle.sector_disk.specs.inside.Storage.{PlacesAreWithin, ArePlaced, IsStorage, IsPlaced, back, IsFilled}
+use Rattle.sector_disk.specs.inside.Storage.{change_count}
 use Rattle.sector_disk.proofs.ImageBack.{chain-within}
 
 pub same_content : (c d : Content) → ((s : ℕ) → c s ≡ d s) → c ≡ d
@@ -45,36 +45,36 @@ new_place : (n : ℕ) (none table : List ℕ) → length none ≡ 0 → table �
 new_place n none table empty zeroes sector = grind (arith, place_past, first_place)
 
 -- an empty table gives the index 0 for each sector, so a table of zeroes changes nothing
-pub kept_opened : (sectors : ℕ) (calls : List Call) (newest base places others : List ℕ)
+pub kept_opened : (sectors : ℕ) (calls : List PastCall) (newest base places others : List ℕ)
     (begun synced : ℕ) (flushed : Bool)
-    → IsKept sectors calls newest base begun synced flushed → length newest ≡ 0
+    → IsStorage sectors calls newest base begun synced flushed → length newest ≡ 0
     → places ≡ replicate sectors 0 → others ≡ []
-    → IsKept sectors calls places others begun synced flushed
+    → IsStorage sectors calls places others begun synced flushed
 kept_opened sectors calls newest base places others begun synced flushed kept empty zeroes
     bare =
     grind (arith, length-replicate, whole_table, place_past, same_content, new_place)
 
-call-kept : (calls : List Call) (call : Call) (place : ℕ) → place < length calls
+call-kept : (calls : List PastCall) (call : PastCall) (place : ℕ) → place < length calls
     → slice_get (calls ++ call ∷ []) place ≡ slice_get calls place
 call-kept calls call place h = slice_get-append_front calls (call ∷ []) place h
 
-pub value-kept : (calls : List Call) (call : Call) (place sector : ℕ) → place < length calls
+pub value-kept : (calls : List PastCall) (call : PastCall) (place sector : ℕ) → place < length calls
     → value_at (calls ++ call ∷ []) place sector ≡ value_at calls place sector
 value-kept calls call place sector h = grind (arith, call-kept)
 
-before-kept : (calls : List Call) (call : Call) (place sector : ℕ) → place < length calls
+before-kept : (calls : List PastCall) (call : PastCall) (place sector : ℕ) → place < length calls
     → before_at (calls ++ call ∷ []) place sector ≡ before_at calls place sector
 before-kept calls call place sector h = grind (arith, call-kept)
 
-open-kept : (calls : List Call) (call : Call) (synced place : ℕ) → place < length calls
+open-kept : (calls : List PastCall) (call : PastCall) (synced place : ℕ) → place < length calls
     → is_open (calls ++ call ∷ []) synced place ≡ is_open calls synced place
 open-kept calls call synced place h = grind (arith, call-kept)
 
-within-kept : (calls : List Call) (call : Call) (place : ℕ) → place < length calls
+within-kept : (calls : List PastCall) (call : PastCall) (place : ℕ) → place < length calls
     → nat_lt place (length (calls ++ call ∷ [])) ≡ nat_lt place (length calls)
 within-kept calls call place h = grind (arith, lt-ltb, length-snoc)
 
-chain-kept : (calls : List Call) (call : Call) (synced sector n place : ℕ)
+chain-kept : (calls : List PastCall) (call : PastCall) (synced sector n place : ℕ)
     → is_chain calls synced sector n place ≡ true
     → is_chain (calls ++ call ∷ []) synced sector n place ≡ true
 chain-kept calls call synced sector zero place e = e
@@ -101,7 +101,7 @@ chain-kept calls call synced sector (suc (suc n)) place e =
         → is_chain calls synced sector (suc n) (before_at calls place sector) ≡ true
     rest e = grind (arith, and_parts)
 
-back-kept : (calls : List Call) (call : Call) (synced sector n place : ℕ)
+back-kept : (calls : List PastCall) (call : PastCall) (synced sector n place : ℕ)
     → is_chain calls synced sector n place ≡ true
     → back (calls ++ call ∷ []) sector n place ≡ back calls sector n place
 back-kept calls call synced sector zero place e = refl
@@ -120,22 +120,22 @@ back-kept calls call synced sector (suc (suc n)) place e =
         → is_chain calls synced sector (suc n) (before_at calls place sector) ≡ true
     rest e = grind (arith, and_parts)
 
-pub placed-kept : (calls : List Call) (call : Call) (synced sector place : ℕ) (now : List ℕ)
+pub placed-kept : (calls : List PastCall) (call : PastCall) (synced sector place : ℕ) (now : List ℕ)
     (may : List (List ℕ))
     → IsPlaced calls synced sector place now may
     → IsPlaced (calls ++ call ∷ []) synced sector place now may
 placed-kept calls call synced sector place now may placed =
     grind (arith, value-kept, chain-within, back-kept, chain-kept, length-snoc)
 
-steps-kept : (calls : List Call) (call : Call) (begun n : ℕ) → begun + n ≤ length calls
-    → steps_of (calls ++ call ∷ []) begun n ≡ steps_of calls begun n
+steps-kept : (calls : List PastCall) (call : PastCall) (begun n : ℕ) → begun + n ≤ length calls
+    → stored_steps (calls ++ call ∷ []) begun n ≡ stored_steps calls begun n
 steps-kept calls call begun zero h = refl
 steps-kept calls call begun (suc n) h =
     grind (arith, steps-kept calls call begun n (omega arith), call-kept)
 
-pub past-put : (calls : List Call) (call : Call) (begun : ℕ) → begun ≤ length calls
+pub past-put : (calls : List PastCall) (call : PastCall) (begun : ℕ) → begun ≤ length calls
     → past_of (calls ++ call ∷ []) begun false
-    ≡ Puts (values_of call) call.fua ∷ past_of calls begun call.after_flush
+    ≡ Puts (change_values_of call) call.fua ∷ past_of calls begun call.after_flush
 past-put calls call begun h =
     grind (
       arith,
@@ -149,13 +149,13 @@ past-put calls call begun h =
       steps-kept calls call begun (length calls - begun) (omega arith),
     )
 
-pub start-put : (calls : List Call) (call : Call) (base : List ℕ) → AreWithin calls base
+pub start-put : (calls : List PastCall) (call : PastCall) (base : List ℕ) → PlacesAreWithin calls base
     → content_at (calls ++ call ∷ []) base ≡ content_at calls base
 start-put calls call base within = grind (arith, same_content, value-kept)
 
-pub values-in : (call : Call) (sector : ℕ) → call.first ≤ sector
-    → sector < call.first + count_of call.change
-    → (value : List ℕ) × (values_of call sector ≡ Some value)
+pub values-in : (call : PastCall) (sector : ℕ) → call.first ≤ sector
+    → sector < call.first + change_count call.change
+    → (value : List ℕ) × (change_values_of call sector ≡ Some value)
 values-in call sector low high = at call.change high
   where
     within : (count : ℕ) (value : ℕ → List ℕ) → sector < call.first + count
@@ -167,15 +167,15 @@ values-in call sector low high = at call.change high
               ∙ over-in call.first count value (sector - call.first) (omega arith),
         )
 
-    at : (change : Change) → sector < call.first + count_of change
+    at : (change : PastChange) → sector < call.first + change_count change
         → (value : List ℕ) × (change_values call.first change sector ≡ Some value)
     at (Write bytes) less = within (length bytes / 512) (sector_of bytes) less
     at (Image bytes) less = within (length bytes / 512) (sector_of bytes) less
     at (Discard count) less = within count (λ _. replicate 512 0) less
 
-pub values-out : (call : Call) (sector : ℕ)
-    → (sector < call.first) ⊎ (call.first + count_of call.change ≤ sector)
-    → values_of call sector ≡ None
+pub values-out : (call : PastCall) (sector : ℕ)
+    → (sector < call.first) ⊎ (call.first + change_count call.change ≤ sector)
+    → change_values_of call sector ≡ None
 values-out call sector outside = at call.change outside
   where
     without : (count : ℕ) (value : ℕ → List ℕ)
@@ -183,36 +183,36 @@ values-out call sector outside = at call.change outside
         → over call.first count value sector ≡ None
     without count value side = grind (arith, over-before, over-after)
 
-    at : (change : Change) → (sector < call.first) ⊎ (call.first + count_of change ≤ sector)
+    at : (change : PastChange) → (sector < call.first) ⊎ (call.first + change_count change ≤ sector)
         → change_values call.first change sector ≡ None
     at (Write bytes) side = without (length bytes / 512) (sector_of bytes) side
     at (Image bytes) side = without (length bytes / 512) (sector_of bytes) side
     at (Discard count) side = without count (λ _. replicate 512 0) side
 
-here : (calls : List Call) (call : Call) → slice_get (calls ++ call ∷ []) (length calls) ≡ Some call
+here : (calls : List PastCall) (call : PastCall) → slice_get (calls ++ call ∷ []) (length calls) ≡ Some call
 here calls call = slice_get-append_here calls call []
 
-chain-more : (calls : List Call) (synced sector n place before : ℕ) → place < length calls
+chain-more : (calls : List PastCall) (synced sector n place before : ℕ) → place < length calls
     → is_open calls synced place ≡ true
     → before_at calls place sector ≡ before → is_chain calls synced sector n before ≡ true
     → is_chain calls synced sector (suc n) place ≡ true
 chain-more calls synced sector zero place before within opens is e = grind arith
 chain-more calls synced sector (suc n) place before within opens is e = grind (arith, lt-ltb)
 
-pub chain-alone : (calls : List Call) (synced sector place : ℕ) → place < length calls
+pub chain-alone : (calls : List PastCall) (synced sector place : ℕ) → place < length calls
     → is_open calls synced place ≡ false
     → is_chain calls synced sector 1 place ≡ true
 chain-alone calls synced sector place within closed = grind (arith, lt-ltb)
 
-placed-new : (calls : List Call) (call : Call) (synced sector before : ℕ) (now value : List ℕ)
+placed-new : (calls : List PastCall) (call : PastCall) (synced sector before : ℕ) (now value : List ℕ)
     (may : List (List ℕ))
     → IsPlaced calls synced sector before now may → synced ≤ length calls
-    → values_of call sector ≡ Some value → before_in (Some call) sector ≡ before
+    → change_values_of call sector ≡ Some value → before_in (Some call) sector ≡ before
     → IsPlaced (calls ++ call ∷ []) synced sector (length calls) value
     (candidates_after (Some value) call.fua may)
 placed-new calls call synced sector before now value may placed low is came = at call.fua refl
   where
-    all : List Call
+    all : List PastCall
     all = calls ++ call ∷ []
 
     there : length calls < length (calls ++ call ∷ [])
@@ -258,23 +258,23 @@ came-before : (newest before : List ℕ) (first count sector : ℕ)
 came-before newest before first count sector is low high =
     grind (arith, unwrap_or-slice_get, get_or, get_or-take, get_or-drop)
 
-cache-put : (calls : List Call) (call : Call) (base : List ℕ) (begun : ℕ) (flushed : Bool)
-    → begun ≤ length calls → AreWithin calls base
+cache-put : (calls : List PastCall) (call : PastCall) (base : List ℕ) (begun : ℕ) (flushed : Bool)
+    → begun ≤ length calls → PlacesAreWithin calls base
     → call.after_flush ≡ flushed
-    → cache_of (calls ++ call ∷ []) base begun false
+    → stored_cache (calls ++ call ∷ []) base begun false
     ≡ cache_after (content_at calls base)
-    (Puts (values_of call) call.fua ∷ past_of calls begun flushed)
+    (Puts (change_values_of call) call.fua ∷ past_of calls begun flushed)
 cache-put calls call base begun flushed within base_within after =
     rw (start-put calls call base base_within) (ap (cache_after (content_at calls base))
     (past-put calls call begun within) ∙ rw after)
 
-pub kept-put : (sectors : ℕ) (calls : List Call) (newest filled base : List ℕ) (begun synced : ℕ)
-    (flushed : Bool) (call : Call)
-    → IsKept sectors calls newest base begun synced flushed → length newest ≡ sectors
+pub kept-put : (sectors : ℕ) (calls : List PastCall) (newest filled base : List ℕ) (begun synced : ℕ)
+    (flushed : Bool) (call : PastCall)
+    → IsStorage sectors calls newest base begun synced flushed → length newest ≡ sectors
     → call.after_flush ≡ flushed
-    → call.before ≡ take (count_of call.change) (drop call.first newest)
-    → IsFilled call.first (count_of call.change) (length calls) newest filled
-    → IsKept sectors (calls ++ call ∷ []) filled base begun synced false
+    → call.before ≡ take (change_count call.change) (drop call.first newest)
+    → IsFilled call.first (change_count call.change) (length calls) newest filled
+    → IsStorage sectors (calls ++ call ∷ []) filled base begun synced false
 kept-put sectors calls newest filled base begun synced flushed call kept opened after before fills =
     let more = length-snoc calls call in
     record {
@@ -295,24 +295,24 @@ kept-put sectors calls newest filled base begun synced flushed call kept opened 
     }
   where
     cache : Cache
-    cache = cache_of calls base begun flushed
+    cache = stored_cache calls base begun flushed
 
     each : (sector : ℕ) → sector < sectors
         → IsPlaced (calls ++ call ∷ []) synced sector (place_of filled sector)
-        (unwrap_or (values_of call sector) ((cache_of calls base begun flushed).now sector))
-        (candidates_after (values_of call sector) call.fua
-        ((cache_of calls base begun flushed).may sector))
+        (unwrap_or (change_values_of call sector) ((stored_cache calls base begun flushed).now sector))
+        (candidates_after (change_values_of call sector) call.fua
+        ((stored_cache calls base begun flushed).may sector))
     each sector h =
         let old = kept.placed.each sector h in
-        let now = (cache_of calls base begun flushed).now sector in
-        let may = (cache_of calls base begun flushed).may sector in
+        let now = (stored_cache calls base begun flushed).now sector in
+        let may = (stored_cache calls base begun flushed).may sector in
         let Placed : ℕ → Option (List ℕ) → Type 0 =
         λ place o. IsPlaced (calls ++ call ∷ []) synced sector place (unwrap_or o now)
         (candidates_after o call.fua may) in
-        let outside : (sector < call.first) ⊎ (call.first + count_of call.change ≤ sector) →
-        Placed (place_of filled sector) (values_of call sector) =
+        let outside : (sector < call.first) ⊎ (call.first + change_count call.change ≤ sector) →
+        Placed (place_of filled sector) (change_values_of call sector) =
         λ side.
-        let Place : ℕ → Type 0 = λ place. Placed place (values_of call sector) in
+        let Place : ℕ → Type 0 = λ place. Placed place (change_values_of call sector) in
         let Value : Option (List ℕ) → Type 0 = λ o. Placed (place_of newest sector) o in
         subst Place (sym (fills.outside sector side)) (
         subst Value (sym (values-out call sector side))
@@ -320,17 +320,17 @@ kept-put sectors calls newest filled base begun synced flushed call kept opened 
         ) in
         elim (cases_lt sector call.first) [
           | inl low ↦ outside (inl low)
-          | inr from ↦ elim (cases_lt sector (call.first + count_of call.change)) [
+          | inr from ↦ elim (cases_lt sector (call.first + change_count call.change)) [
             | inl high ↦
                 let value = values-in call sector from high in
-                let Place : ℕ → Type 0 = λ place. Placed place (values_of call sector) in
+                let Place : ℕ → Type 0 = λ place. Placed place (change_values_of call sector) in
                 let Value : Option (List ℕ) → Type 0 = λ o. Placed (length calls) o in
                 subst Place (sym (fills.within sector from high)) (
                 subst Value (sym value.1) (
                 placed-new calls call synced sector
                 (place_of newest sector) now value.0 may old kept.synced_within value.1
                 (came-before newest call.before call.first
-                (count_of call.change) sector before from high)
+                (change_count call.change) sector before from high)
                 )
                 )
             | inr after_it ↦ outside (inr after_it)
@@ -338,41 +338,41 @@ kept-put sectors calls newest filled base begun synced flushed call kept opened 
         ]
 
 -- For the prover: as `kept-put`, with equations for `all` and `count`
-pub kept_added : (sectors : ℕ) (calls all : List Call) (newest filled base : List ℕ)
-    (begun synced count : ℕ) (flushed : Bool) (call : Call)
-    → all ≡ calls ++ call ∷ [] → IsKept sectors calls newest base begun synced flushed
+pub kept_added : (sectors : ℕ) (calls all : List PastCall) (newest filled base : List ℕ)
+    (begun synced count : ℕ) (flushed : Bool) (call : PastCall)
+    → all ≡ calls ++ call ∷ [] → IsStorage sectors calls newest base begun synced flushed
     → length newest ≡ sectors → call.after_flush ≡ flushed
-    → count ≡ count_of call.change → call.before ≡ take count (drop call.first newest)
+    → count ≡ change_count call.change → call.before ≡ take count (drop call.first newest)
     → IsFilled call.first count (length calls) newest filled
-    → IsKept sectors all filled base begun synced false
+    → IsStorage sectors all filled base begun synced false
 kept_added sectors calls all newest filled base begun synced count flushed call added kept opened
     after counted before fills =
-    let Kept : List Call → Type 0 = λ cs. IsKept sectors cs filled base begun synced false in
+    let Kept : List PastCall → Type 0 = λ cs. IsStorage sectors cs filled base begun synced false in
     let Filled : ℕ → Type 0 = λ n. IsFilled call.first n (length calls) newest filled in
     subst Kept (sym added) (
     kept-put sectors calls newest filled base begun synced flushed call kept opened after
     (before ∙ rw counted) (subst Filled counted fills)
     )
 
-pub past_added : (calls all : List Call) (call : Call) (begun : ℕ) → all ≡ calls ++ call ∷ []
+pub past_added : (calls all : List PastCall) (call : PastCall) (begun : ℕ) → all ≡ calls ++ call ∷ []
     → begun ≤ length calls
     → past_of all begun false
-    ≡ Puts (values_of call) call.fua ∷ past_of calls begun call.after_flush
+    ≡ Puts (change_values_of call) call.fua ∷ past_of calls begun call.after_flush
 past_added calls all call begun added within = grind (arith, past-put)
 
-pub start_added : (calls all : List Call) (call : Call) (base : List ℕ) → all ≡ calls ++ call ∷ []
-    → AreWithin calls base
+pub start_added : (calls all : List PastCall) (call : PastCall) (base : List ℕ) → all ≡ calls ++ call ∷ []
+    → PlacesAreWithin calls base
     → content_at all base ≡ content_at calls base
 start_added calls all call base added within =
     rw added (start-put calls call base within)
 
-placed-alone : (calls : List Call) (synced sector place : ℕ) → place < length calls
+placed-alone : (calls : List PastCall) (synced sector place : ℕ) → place < length calls
     → is_open calls synced place ≡ false
     → IsPlaced calls synced sector place (value_at calls place sector)
     (value_at calls place sector ∷ [])
 placed-alone calls synced sector place within closed = grind (arith, chain-alone)
 
-all-closed : (calls : List Call) (place : ℕ) → place < length calls
+all-closed : (calls : List PastCall) (place : ℕ) → place < length calls
     → is_open calls (length calls) place ≡ false
 all-closed calls place within =
     ap (λ b. b && is_plain (slice_get calls place)) (above (nat_le (length calls) place) refl)
@@ -381,10 +381,10 @@ all-closed calls place within =
     above true e = absurd (let low = leb-true (length calls) place e in omega arith)
     above false e = refl
 
-pub kept_flushed : (sectors : ℕ) (calls : List Call) (newest base : List ℕ) (begun synced : ℕ)
+pub kept_flushed : (sectors : ℕ) (calls : List PastCall) (newest base : List ℕ) (begun synced : ℕ)
     (flushed : Bool)
-    → IsKept sectors calls newest base begun synced flushed
-    → IsKept sectors calls newest base begun (length calls) true
+    → IsStorage sectors calls newest base begun synced flushed
+    → IsStorage sectors calls newest base begun (length calls) true
 kept_flushed sectors calls newest base begun synced flushed kept = record {
   some = kept.some;
   few = kept.few;
@@ -400,25 +400,25 @@ kept_flushed sectors calls newest base begun synced flushed kept = record {
   where
     each : (b : Bool) (sector : ℕ)
         → IsPlaced calls synced sector (place_of newest sector)
-        ((cache_of calls base begun b).now sector) ((cache_of calls base begun b).may sector)
+        ((stored_cache calls base begun b).now sector) ((stored_cache calls base begun b).may sector)
         → IsPlaced calls (length calls) sector (place_of newest sector)
-        ((cache_of calls base begun true).now sector) ((cache_of calls base begun true).may sector)
+        ((stored_cache calls base begun true).now sector) ((stored_cache calls base begun true).may sector)
     each b sector old =
         grind (arith, chain-within, length, placed-alone, all-closed, true, false)
 
 -- For the prover: as `kept_flushed`, with an equation for `count`
-pub kept_synced : (sectors : ℕ) (calls : List Call) (newest base : List ℕ) (begun synced count : ℕ)
+pub kept_synced : (sectors : ℕ) (calls : List PastCall) (newest base : List ℕ) (begun synced count : ℕ)
     (flushed : Bool)
-    → IsKept sectors calls newest base begun synced flushed → count ≡ length calls
-    → IsKept sectors calls newest base begun count true
+    → IsStorage sectors calls newest base begun synced flushed → count ≡ length calls
+    → IsStorage sectors calls newest base begun count true
 kept_synced sectors calls newest base begun synced count flushed kept is =
     grind (arith, kept_flushed)
 
 -- after a crash, the past begins with `places`, and all calls are durable
-pub kept_begun : (sectors : ℕ) (calls : List Call) (places : List ℕ) → 0 < sectors
+pub kept_begun : (sectors : ℕ) (calls : List PastCall) (places : List ℕ) → 0 < sectors
     → sectors ≤ 1048576 → is_table sectors (length places) ≡ true
-    → AreWithin calls places
-    → IsKept sectors calls places places (length calls) (length calls) false
+    → PlacesAreWithin calls places
+    → IsStorage sectors calls places places (length calls) (length calls) false
 kept_begun sectors calls places some few table within = record {
   some = some;
   few = few;
@@ -433,5 +433,5 @@ kept_begun sectors calls places some few table within = record {
       grind (arith, length, placed-alone, all-closed);
 }
 
-pub past_begun : (calls : List Call) → past_of calls (length calls) false ≡ []
+pub past_begun : (calls : List PastCall) → past_of calls (length calls) false ≡ []
 past_begun calls = grind arith

@@ -14,12 +14,12 @@ use Rattle.bio.specs.ContentLaws.{over_cases, discards-whole, writes-whole, over
 use Rattle.bio.specs.ContentLaws.{gather-ext, gather-sector_of, length-gather, over-in}
 use Rattle.bio.specs.PlaceLaws.{last_or_below, length-snoc, slice_get-append_front}
 use Rattle.bio.specs.PlaceLaws.{slice_get-append_here}
-use Rattle.sector_disk.specs.declared.call.Call.{Call}
-use Rattle.sector_disk.specs.declared.call.Change.{Change}
-use Rattle.sector_disk.specs.declared.call.Change.TheVariants.{Write, Image, Discard}
+use Rattle.sector_disk.specs.declared.call.PastCall.{PastCall}
+use Rattle.sector_disk.specs.declared.call.PastChange.{PastChange}
+use Rattle.sector_disk.specs.declared.call.PastChange.TheVariants.{Write, Image, Discard}
 use Rattle.sector_disk.specs.inside.Storage.{IsPlaced, back, before_at, change_values, content_at}
 use Rattle.sector_disk.specs.inside.Storage.{is_chain, is_image_in, is_open, is_write_of, left_at}
-use Rattle.sector_disk.specs.inside.Storage.{place_of, put_over, value_at, value_in, values_of}
+use Rattle.sector_disk.specs.inside.Storage.{place_of, put_over, value_at, value_in, change_values_of}
 use Rattle.sector_disk.specs.inside.Storage.{walk}
 
 pub written_whole : (bytes : List ℕ) (sector : ℕ) → sector < length bytes / 512
@@ -30,12 +30,12 @@ written_whole bytes sector within =
     ∙ ap (λ (o : Option (List ℕ)). unwrap_or o (replicate 512 0))
     (over-in 0 (length bytes / 512) (sector_of bytes) sector within)
 
-pub left_later : (later : List Call) (image : List ℕ) (place sector : ℕ) → 0 < place
+pub left_later : (later : List PastCall) (image : List ℕ) (place sector : ℕ) → 0 < place
     → left_at later image place sector ≡ value_at later (place - 1) sector
 left_later later image zero sector some = absurd (omega arith)
 left_later later image (suc place) sector some = grind arith
 
-pub left_first : (later : List Call) (image : List ℕ) (place sector : ℕ) → (0 < place → ⊥)
+pub left_first : (later : List PastCall) (image : List ℕ) (place sector : ℕ) → (0 < place → ⊥)
     → left_at later image place sector ≡ sector_of image sector
 left_first later image zero sector none = refl
 left_first later image (suc place) sector none = absurd (none (omega arith))
@@ -73,7 +73,7 @@ gather-kept content index old first rest is earlier =
     ∙ ap (gather content 0) more
 
 -- the image that the first call wrote, with later calls' values put over it, is the content
-pub given : (calls : List Call) (places : List ℕ) (sectors : ℕ) (first : Call)
+pub given : (calls : List PastCall) (places : List ℕ) (sectors : ℕ) (first : PastCall)
     (bytes image : List ℕ) → first ≡ get_or calls 0 first
     → first.change ≡ Write bytes → image ≡ bytes
     → is_image_in (slice_get calls 0) sectors ≡ true
@@ -134,7 +134,7 @@ pub discarded : (first count sector : ℕ)
 discarded first count sector = grind (arith, over_cases, over-in)
 
 -- sectors that only the image in the first call put have the image's bytes
-pub gather-image : (calls : List Call) (places : List ℕ) (call : Call) (image : List ℕ)
+pub gather-image : (calls : List PastCall) (places : List ℕ) (call : PastCall) (image : List ℕ)
     (first n from : ℕ) → slice_get calls 0 ≡ Some call → call.first ≡ 0
     → call.change ≡ Image image → ((k : ℕ) → k < n → place_of places (first + k) ≡ 0)
     → from ≡ 512 * first → from + 512 * n ≤ length image
@@ -175,14 +175,14 @@ pub gather-next : (content : Content) (first index : ℕ) (old new value : List 
 gather-next content first index old new value within size is read earlier =
     grind (arith, take-put_mid)
 
-pub length-value_at : (calls : List Call) (place sector : ℕ)
+pub length-value_at : (calls : List PastCall) (place sector : ℕ)
     → length (value_at calls place sector) ≡ 512
 length-value_at calls place sector = at (slice_get calls place)
   where
-    values : (call : Call) → HasWholeValues (values_of call)
+    values : (call : PastCall) → HasWholeValues (change_values_of call)
     values call = by_change call.first call.change
       where
-        by_change : (from : ℕ) (change : Change) → HasWholeValues (change_values from change)
+        by_change : (from : ℕ) (change : PastChange) → HasWholeValues (change_values from change)
         by_change from (Write bytes) = writes-whole from bytes
         by_change from (Image bytes) = writes-whole from bytes
         by_change from (Discard count) = discards-whole from count
@@ -192,29 +192,29 @@ length-value_at calls place sector = at (slice_get calls place)
     there None whole = refl
     there (Some x) whole = whole x refl
 
-    at : (o : Option Call) → length (value_in o sector) ≡ 512
+    at : (o : Option PastCall) → length (value_in o sector) ≡ 512
     at None = refl
-    at (Some call) = there (values_of call sector) (values call sector)
+    at (Some call) = there (change_values_of call sector) (values call sector)
 
-pub length-gather_at : (calls : List Call) (places : List ℕ) (first n : ℕ)
+pub length-gather_at : (calls : List PastCall) (places : List ℕ) (first n : ℕ)
     → length (gather (content_at calls places) first n) ≡ 512 * n
 length-gather_at calls places first n =
     length-gather (first + n) (content_at calls places) first n
     (λ sector within. length-value_at calls (place_of places sector) sector) (omega arith)
 
-chain_parts : (calls : List Call) (synced s n place : ℕ)
+chain_parts : (calls : List PastCall) (synced s n place : ℕ)
     → is_chain calls synced s (suc (suc n)) place ≡ true
     → (nat_lt place (length calls) ≡ true) × (is_open calls synced place ≡ true)
     × (is_chain calls synced s (suc n) (before_at calls place s) ≡ true)
 chain_parts calls synced s n place e = grind (arith, and_parts)
 
-pub chain-within : (calls : List Call) (synced s n place : ℕ)
+pub chain-within : (calls : List PastCall) (synced s n place : ℕ)
     → is_chain calls synced s n place ≡ true → place < length calls
 chain-within calls synced s zero place e = let never : ⊥ = cc in absurd never
 chain-within calls synced s (suc zero) place e = grind (arith, ltb-true, and_parts)
 chain-within calls synced s (suc (suc n)) place e = grind (arith, ltb-true, chain_parts)
 
-pub chain-open : (calls : List Call) (synced s n place : ℕ) → is_chain calls synced s n place ≡ true
+pub chain-open : (calls : List PastCall) (synced s n place : ℕ) → is_chain calls synced s n place ≡ true
     → is_open calls synced place ≡ true
     → (1 < n) × (is_chain calls synced s (n - 1) (before_at calls place s) ≡ true)
 chain-open calls synced s zero place e open_there = let never : ⊥ = cc in absurd never
@@ -226,13 +226,13 @@ chain-open calls synced s (suc (suc n)) place e open_there =
       rw less parts.2,
     )
 
-pub chain-closed : (calls : List Call) (synced s n place : ℕ)
+pub chain-closed : (calls : List PastCall) (synced s n place : ℕ)
     → is_chain calls synced s n place ≡ true → is_open calls synced place ≡ false → n ≡ 1
 chain-closed calls synced s zero place e closed = let never : ⊥ = cc in absurd never
 chain-closed calls synced s (suc zero) place e closed = refl
 chain-closed calls synced s (suc (suc n)) place e closed = grind (arith, chain_parts)
 
-pub walk-within : (calls : List Call) (synced s n place k : ℕ)
+pub walk-within : (calls : List PastCall) (synced s n place k : ℕ)
     → is_chain calls synced s n place ≡ true → k < n → walk calls s k place < length calls
 walk-within calls synced s n place zero e h = chain-within calls synced s n place e
 walk-within calls synced s (suc (suc n)) place (suc k) e h =
@@ -240,12 +240,12 @@ walk-within calls synced s (suc (suc n)) place (suc k) e h =
     (chain_parts calls synced s n place e).2 (omega arith)
 walk-within calls synced s other place (suc k) e h = absurd (omega arith)
 
-pub length-back : (calls : List Call) (s n place : ℕ) → length (back calls s n place) ≡ n
+pub length-back : (calls : List PastCall) (s n place : ℕ) → length (back calls s n place) ≡ n
 length-back calls s zero place = refl
 length-back calls s (suc n) place =
     grind (arith, length-back calls s n (before_at calls place s), length-snoc)
 
-pub back-at : (calls : List Call) (s n place j : ℕ) → j < n
+pub back-at : (calls : List PastCall) (s n place j : ℕ) → j < n
     → slice_get (back calls s n place) j ≡ Some (value_at calls (walk calls s (n - 1 - j) place) s)
 back-at calls s zero place j h = absurd (omega arith)
 back-at calls s (suc n) place j h = elim (last_or_below j n h) [
@@ -266,13 +266,13 @@ back-at calls s (suc n) place j h = elim (last_or_below j n h) [
       ∙ ap (λ (k : ℕ). Some (value_at calls (walk calls s k place) s)) more
 ]
 
-pub candidate-value : (calls : List Call) (synced s place : ℕ) (now : List ℕ) (may : List (List ℕ))
+pub candidate-value : (calls : List PastCall) (synced s place : ℕ) (now : List ℕ) (may : List (List ℕ))
     (j : ℕ)
     → IsPlaced calls synced s place now may → j < length may
     → value_at calls (walk calls s (length may - 1 - j) place) s ≡ unwrap_or (slice_get may j) []
 candidate-value calls synced s place now may j placed h = grind (arith, back-at)
 
-pub candidate-within : (calls : List Call) (synced s place : ℕ) (now : List ℕ) (may : List (List ℕ))
+pub candidate-within : (calls : List PastCall) (synced s place : ℕ) (now : List ℕ) (may : List (List ℕ))
     (j : ℕ)
     → IsPlaced calls synced s place now may → j < length may
     → walk calls s (length may - 1 - j) place < length calls

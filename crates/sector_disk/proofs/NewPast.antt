@@ -16,13 +16,13 @@ use Rattle.blockdev.specs.View.{View}
 use Rattle.sector_disk.proofs.ImageBack.{candidate-value, candidate-within, discarded}
 use Rattle.sector_disk.proofs.FieldsKept.{kept_begun, past_begun, place_past, table_cases}
 use Rattle.sector_disk.specs.CandidateLaws.{syncs_start}
-use Rattle.sector_disk.specs.Candidates.{Cache, Step, choice_of, left_by, unsynced_below, view_of}
-use Rattle.sector_disk.specs.declared.call.Call.{Call}
+use Rattle.sector_disk.specs.Candidates.{Cache, PastStep, choice_of, left_by, unsynced_below, view_of}
+use Rattle.sector_disk.specs.declared.call.PastCall.{PastCall}
 use Rattle.sector_disk.specs.declared.disk.SectorDisk.{SectorDisk}
-use Rattle.sector_disk.specs.DiskView.{Begins, cache_of}
-use Rattle.sector_disk.specs.inside.Storage.{AreChosen, ArePlaced, AreWithin, IsKept, content_at}
+use Rattle.sector_disk.specs.DiskView.{PastBegins, cache_of}
+use Rattle.sector_disk.specs.inside.Storage.{AreChosen, ArePlaced, PlacesAreWithin, IsStorage, content_at}
 use Rattle.sector_disk.specs.inside.Storage.{is_chain, is_open, is_plain, is_table, past_of}
-use Rattle.sector_disk.specs.inside.Storage.{place_of, value_at, values_of, walk}
+use Rattle.sector_disk.specs.inside.Storage.{place_of, value_at, change_values_of, walk}
 
 pub place_of-set_same : (places : List ℕ) (sector place : ℕ) → sector < length places
     → place_of (set places sector place) sector ≡ place
@@ -33,19 +33,19 @@ pub place_of-set_other : (places : List ℕ) (sector place other : ℕ) → othe
 place_of-set_other places sector place other h =
     grind (arith, unwrap_or-slice_get, get_or-set_other)
 
-chain-some : (calls : List Call) (synced s n place : ℕ) → is_chain calls synced s n place ≡ true
+chain-some : (calls : List PastCall) (synced s n place : ℕ) → is_chain calls synced s n place ≡ true
     → 0 < n
 chain-some calls synced s zero place e = let never : ⊥ = cc in absurd never
 chain-some calls synced s (suc n) place e = omega arith
 
-counted : (calls : List Call) (synced : ℕ) (newest : List ℕ) (sector count : ℕ) (cache : Cache)
+counted : (calls : List PastCall) (synced : ℕ) (newest : List ℕ) (sector count : ℕ) (cache : Cache)
     → ArePlaced calls synced (length newest) newest cache → sector < length newest
     → ((n : ℕ) → n ≤ length calls → is_chain calls synced sector n (get_or newest sector 0) ≡ true
     → count ≡ n)
     → count ≡ length (cache.may sector)
 counted calls synced newest sector count cache placed h counts = grind (arith, unwrap_or-slice_get)
 
-pub unsynced-next : (calls : List Call) (synced : ℕ) (newest : List ℕ)
+pub unsynced-next : (calls : List PastCall) (synced : ℕ) (newest : List ℕ)
     (sector count unsynced next : ℕ) (cache : Cache)
     → ArePlaced calls synced (length newest) newest cache → sector < length newest
     → ((n : ℕ) → n ≤ length calls → is_chain calls synced sector n (get_or newest sector 0) ≡ true
@@ -64,7 +64,7 @@ unsynced-next calls synced newest sector count unsynced next cache placed h coun
     at (inl many) is = grind (arith, lt-ltb)
     at (inr few) is = grind (arith, le-ltb)
 
-pub chosen-next : (calls : List Call) (synced : ℕ) (newest picks chosen : List ℕ)
+pub chosen-next : (calls : List PastCall) (synced : ℕ) (newest picks chosen : List ℕ)
     (sector count unsynced pick place : ℕ) (cache : Cache)
     → ArePlaced calls synced (length newest) newest cache → sector < length newest
     → length chosen ≡ length newest
@@ -113,13 +113,13 @@ chosen-next calls synced newest picks chosen sector count unsynced pick place ca
       ];
     }
 
-chain-one : (calls : List Call) (synced s n place : ℕ) → is_open calls synced place ≡ false
+chain-one : (calls : List PastCall) (synced s n place : ℕ) → is_open calls synced place ≡ false
     → is_chain calls synced s n place ≡ true → n ≡ 1
 chain-one calls synced s zero place closed e = let never : ⊥ = cc in absurd never
 chain-one calls synced s (suc zero) place closed e = refl
 chain-one calls synced s (suc (suc n)) place closed e = grind (arith, and_parts)
 
-first-closed : (calls : List Call) (synced place : ℕ) → 0 < synced → place ≡ 0
+first-closed : (calls : List PastCall) (synced place : ℕ) → 0 < synced → place ≡ 0
     → is_open calls synced place ≡ false
 first-closed calls synced place some is =
     ap (λ b. b && is_plain (slice_get calls place)) (above (nat_le synced place) refl)
@@ -129,7 +129,7 @@ first-closed calls synced place some is =
     above false e = refl
 
 -- without a table, each sector has the first call's value, which is durable and its only candidate
-pub first_chosen : (calls : List Call) (synced sectors : ℕ) (newest picks chosen : List ℕ)
+pub first_chosen : (calls : List PastCall) (synced sectors : ℕ) (newest picks chosen : List ℕ)
     (cache : Cache) → length newest ≡ 0 → length chosen ≡ 0
     → 0 < synced → ArePlaced calls synced sectors newest cache
     → AreChosen calls cache picks sectors chosen
@@ -157,44 +157,44 @@ first_chosen calls synced sectors newest picks chosen cache none empty some plac
     candidate s h =
         grind (arith, chain-some, mod-lt, candidate-value, candidate-within)
 
-pub begins_same : (n : ℕ) (c d : Content) (v : View) → ((s : ℕ) → s < n → c s ≡ d s) → Begins n c v
-    → Begins n d v
+pub begins_same : (n : ℕ) (c d : Content) (v : View) → ((s : ℕ) → s < n → c s ≡ d s) → PastBegins n c v
+    → PastBegins n d v
 begins_same n c d v same begins = grind arith
 
 pub begins_fresh : (n : ℕ) (start content : Content) → ((s : ℕ) → s < n → start s ≡ content s)
-    → Begins n content (view_of n start [])
+    → PastBegins n content (view_of n start [])
 begins_fresh n start content same = record {
   size = refl;
   content = same;
   only = syncs_start n start;
-  moment = refl;
+  clock = refl;
 }
 
-pub begins_made : (sectors n : ℕ) (calls none : List Call) (base : List ℕ) (call : Call)
+pub begins_made : (sectors n : ℕ) (calls none : List PastCall) (base : List ℕ) (call : PastCall)
     → calls ≡ none ++ call ∷ [] → none ≡ [] → base ≡ [] → sectors ≡ n
-    → Begins n (put (values_of call) (λ _. replicate 512 0))
+    → PastBegins n (put (change_values_of call) (λ _. replicate 512 0))
     (view_of sectors (content_at calls base) (past_of calls 1 false))
 begins_made sectors n calls none base call one empty bare same =
-    let Made : List Call → Type 0 =
-    λ cs. Begins n (put (values_of call) (λ _. replicate 512 0))
+    let Made : List PastCall → Type 0 =
+    λ cs. PastBegins n (put (change_values_of call) (λ _. replicate 512 0))
     (view_of sectors (content_at cs base) (past_of cs 1 false)) in
     let Sized : ℕ → Type 0 =
-    λ size. Begins n (put (values_of call) (λ _. replicate 512 0))
+    λ size. PastBegins n (put (change_values_of call) (λ _. replicate 512 0))
     (view_of size (content_at (call ∷ []) base) []) in
-    subst Made (sym (one ∙ ap (λ (cs : List Call). cs ++ call ∷ []) empty))
+    subst Made (sym (one ∙ ap (λ (cs : List PastCall). cs ++ call ∷ []) empty))
     (subst Sized (sym same) (begins_fresh n (content_at (call ∷ []) base)
-    (put (values_of call) (λ _. replicate 512 0)) (λ s h.
+    (put (change_values_of call) (λ _. replicate 512 0)) (λ s h.
     ap (λ (places : List ℕ). value_at (call ∷ []) (place_of places s) s) bare)))
 
-pub zeroes_made : (n : ℕ) (v : View) → Begins n (put (discards 0 n) (λ _. replicate 512 0)) v
-    → Begins n (λ _. replicate 512 0) v
+pub zeroes_made : (n : ℕ) (v : View) → PastBegins n (put (discards 0 n) (λ _. replicate 512 0)) v
+    → PastBegins n (λ _. replicate 512 0) v
 zeroes_made n v =
     begins_same n (put (discards 0 n) (λ _. replicate 512 0)) (λ _. replicate 512 0) v
     (λ s h. discarded 0 n s)
 
 pub image_made : (bytes : List ℕ) (v : View)
-    → Begins (length bytes / 512) (put (writes 0 bytes) (λ _. replicate 512 0)) v
-    → Begins (length bytes / 512) (sector_of bytes) v
+    → PastBegins (length bytes / 512) (put (writes 0 bytes) (λ _. replicate 512 0)) v
+    → PastBegins (length bytes / 512) (sector_of bytes) v
 image_made bytes v =
     begins_same (length bytes / 512) (put (writes 0 bytes) (λ _. replicate 512 0))
     (sector_of bytes) v (λ s h.
@@ -202,7 +202,7 @@ image_made bytes v =
     put-writes 0 bytes (λ _. replicate 512 0) s (omega arith) (omega arith)
     ∙ ap (sector_of bytes) same)
 
-pub chosen_of : (disk : SectorDisk) (calls : List Call) (newest picks chosen : List ℕ)
+pub chosen_of : (disk : SectorDisk) (calls : List PastCall) (newest picks chosen : List ℕ)
     → calls ≡ disk.calls.items → newest ≡ disk.newest.items
     → length chosen ≡ length newest
     → ((cache : Cache) → ArePlaced calls disk.synced (length newest) newest cache
@@ -216,10 +216,10 @@ chosen_of disk calls newest picks chosen same_calls same_newest size choice =
           disk.kept.synced_some disk.kept.placed
       | inr whole ↦
           let count = ap length same_newest ∙ whole in
-          let Calls : List Call → Type 0 =
+          let Calls : List PastCall → Type 0 =
           λ cs. AreChosen cs (cache_of disk) picks disk.sectors chosen in
           let Count : ℕ → Type 0 = λ n. AreChosen calls (cache_of disk) picks n chosen in
-          let Placed : List Call → Type 0 =
+          let Placed : List PastCall → Type 0 =
           λ cs. ArePlaced cs disk.synced (length newest) newest (cache_of disk) in
           let Newest : List ℕ → Type 0 =
           λ places. ArePlaced disk.calls.items disk.synced (length newest) places
@@ -235,26 +235,26 @@ chosen_of disk calls newest picks chosen same_calls same_newest size choice =
 chosen-within : (disk : SectorDisk) (picks chosen : List ℕ)
     → AreChosen disk.calls.items (cache_of disk) picks disk.sectors chosen
     → is_table disk.sectors (length chosen) ≡ true
-    → AreWithin disk.calls.items chosen
+    → PlacesAreWithin disk.calls.items chosen
 chosen-within disk picks chosen choice table = grind (arith, cases_lt, place_past, table_cases)
 
 pub kept_chosen : (disk : SectorDisk) (picks newest chosen : List ℕ) (count : ℕ)
     → AreChosen disk.calls.items (cache_of disk) picks disk.sectors chosen
     → is_table disk.sectors (length chosen) ≡ true → newest ≡ chosen
     → count ≡ length disk.calls.items
-    → IsKept disk.sectors disk.calls.items newest chosen count count false
+    → IsStorage disk.sectors disk.calls.items newest chosen count count false
 kept_chosen disk picks newest chosen count choice table same is =
     grind (arith, kept_begun, chosen-within)
 
 pub begins_chosen : (disk : SectorDisk) (picks chosen : List ℕ) (count : ℕ)
     → AreChosen disk.calls.items (cache_of disk) picks disk.sectors chosen
     → count ≡ length disk.calls.items
-    → Begins disk.sectors (left_by (cache_of disk) picks)
+    → PastBegins disk.sectors (left_by (cache_of disk) picks)
     (view_of disk.sectors (content_at disk.calls.items chosen)
     (past_of disk.calls.items count false))
 begins_chosen disk picks chosen count choice is =
-    let Past : List Step → Type 0 =
-    λ past. Begins disk.sectors (left_by (cache_of disk) picks)
+    let Past : List PastStep → Type 0 =
+    λ past. PastBegins disk.sectors (left_by (cache_of disk) picks)
     (view_of disk.sectors (content_at disk.calls.items chosen) past) in
     subst Past (sym (ap (λ (n : ℕ). past_of disk.calls.items n false) is
     ∙ past_begun disk.calls.items)) (

@@ -13,9 +13,9 @@ use Rattle.std.proofs.Math.Seq.{drop-append-add, drop-append_seam, get_or-append
 use Rattle.bio.specs.Content.{HasWholeSectors, gather, sector_of}
 use Rattle.bio.specs.ContentLaws.{gather-ext, gather-sector_of, length-gather, sector_of-gather}
 use Rattle.bio.specs.PlaceLaws.{last_or_below}
-use Rattle.sector_disk.specs.inside.Packed.{AreParts, IsPackedTo, IsPart, packed, part_at, refilled}
+use Rattle.sector_disk.specs.inside.Packed.{BoundsArePacked, IsPackedTo, RangeIsPacked, packed, part_at, refilled}
 use Rattle.sector_disk.specs.inside.Packed.{unpacked}
-use Rattle.sector_disk.specs.inside.Pieces.{AreWhole, joined}
+use Rattle.sector_disk.specs.inside.Pieces.{PiecesAreWhole, pieces_bytes}
 
 -- if equal bytes end the sector, the first of them is enough to refill it
 refilled_at : (sector : List ℕ) (n last : ℕ) → length sector ≡ 512 → n < 512
@@ -75,7 +75,7 @@ packed_more image bytes bounds part end count earlier few is ends_at = record {
     newest = grind (arith, get_or-append_seam)
 
     each : (sector : ℕ) → sector < count + 1
-        → IsPart (bytes ++ part) (slice_index new sector) (slice_index new (sector + 1))
+        → RangeIsPacked (bytes ++ part) (slice_index new sector) (slice_index new (sector + 1))
         × (packed (bytes ++ part) new sector ≡ sector_of image sector)
     each sector within =
         let size = length-append bytes part in
@@ -108,16 +108,16 @@ packed_all image bytes bounds count size done =
     ∙ gather-sector_of image 0 count
     ∙ take_all (512 * count) image (omega arith)
 
-pub packed_whole : (bytes bounds : List ℕ) → AreParts bytes bounds
+pub packed_whole : (bytes bounds : List ℕ) → BoundsArePacked bytes bounds
     → HasWholeSectors (length bounds - 1) (packed bytes bounds)
 packed_whole bytes bounds parts =
     grind (arith, length-take-le, length-drop, length-append, length-replicate)
 
-pub length-unpacked : (bytes bounds : List ℕ) → AreParts bytes bounds
+pub length-unpacked : (bytes bounds : List ℕ) → BoundsArePacked bytes bounds
     → length (unpacked bytes bounds) ≡ 512 * (length bounds - 1)
 length-unpacked bytes bounds parts = grind (arith, length-gather, packed_whole)
 
-pub sector_there : (bytes bounds : List ℕ) (from : ℕ) → AreParts bytes bounds → from % 512 ≡ 0
+pub sector_there : (bytes bounds : List ℕ) (from : ℕ) → BoundsArePacked bytes bounds → from % 512 ≡ 0
     → from / 512 + 1 < length bounds
     → take 512 (drop from (unpacked bytes bounds)) ≡ packed bytes bounds (from / 512)
 sector_there bytes bounds from parts place within =
@@ -131,7 +131,7 @@ pub record LiesIn (pieces : List (List ℕ)) (from k r : ℕ) : Type 0 where
   pub piece : List ℕ
   pub is : slice_get pieces k ≡ Some piece
   pub within : r + 512 ≤ length piece
-  pub part : take 512 (drop from (joined pieces)) ≡ take 512 (drop r piece)
+  pub part : take 512 (drop from (pieces_bytes pieces)) ≡ take 512 (drop r piece)
 
 first : (piece rest : List ℕ) (r n : ℕ) → r + n ≤ length piece
     → take n (drop r (piece ++ rest)) ≡ take n (drop r piece)
@@ -144,7 +144,7 @@ later : (piece rest : List ℕ) (from : ℕ) → length piece ≡ 65536 → 6553
 later piece rest from size past = grind (arith, drop-append-add)
 
 pub lies_in : (pieces : List (List ℕ)) (from k r : ℕ) → from ≡ 65536 * k + r → r + 512 ≤ 65536
-    → AreWhole pieces → from + 512 ≤ length (joined pieces) → LiesIn pieces from k r
+    → PiecesAreWhole pieces → from + 512 ≤ length (pieces_bytes pieces) → LiesIn pieces from k r
 lies_in [] from k r place small whole within = absurd (omega arith)
 lies_in (p ∷ []) from zero r place small whole within =
     let same : from ≡ r = omega arith in
@@ -164,27 +164,27 @@ lies_in (p ∷ (q ∷ ps)) from zero r place small whole within =
       piece = p;
       is = refl;
       within = size;
-      part = rw same (first p (joined (q ∷ ps)) r 512 size);
+      part = rw same (first p (pieces_bytes (q ∷ ps)) r 512 size);
     }
 lies_in (p ∷ (q ∷ ps)) from (suc k) r place small whole within =
     let full = whole.0 in
     let there = lies_in (q ∷ ps) (from - 65536) k r (omega arith) small whole.1
-    (omega (arith, length-append p (joined (q ∷ ps)))) in
+    (omega (arith, length-append p (pieces_bytes (q ∷ ps)))) in
     record {
       piece = there.piece;
       is = there.is;
       within = there.within;
-      part = ap (take 512) (later p (joined (q ∷ ps)) from full (omega arith)) ∙ there.part;
+      part = ap (take 512) (later p (pieces_bytes (q ∷ ps)) from full (omega arith)) ∙ there.part;
     }
 
 -- the image has `n` bytes from byte `from` on, and they are those of a piece from byte `r` on
-pub record IsRun (pieces : List (List ℕ)) (from r n : ℕ) (piece : List ℕ) : Type 0 where
-  pub within : from + n ≤ length (joined pieces)
-  pub part : take n (drop from (joined pieces)) ≡ take n (drop r piece)
+pub record PieceIsRun (pieces : List (List ℕ)) (from r n : ℕ) (piece : List ℕ) : Type 0 where
+  pub within : from + n ≤ length (pieces_bytes pieces)
+  pub part : take n (drop from (pieces_bytes pieces)) ≡ take n (drop r piece)
 
 pub run_in : (pieces : List (List ℕ)) (from k r n : ℕ) (d : List ℕ) → from ≡ 65536 * k + r
-    → k < length pieces → AreWhole pieces → r + n ≤ length (get_or pieces k d)
-    → IsRun pieces from r n (get_or pieces k d)
+    → k < length pieces → PiecesAreWhole pieces → r + n ≤ length (get_or pieces k d)
+    → PieceIsRun pieces from r n (get_or pieces k d)
 run_in [] from k r n d place there whole within = absurd (omega arith)
 run_in (p ∷ []) from zero r n d place there whole within =
     let same : from ≡ r = omega arith in
@@ -193,21 +193,21 @@ run_in (p ∷ []) from (suc k) r n d place there whole within = absurd (omega ar
 run_in (p ∷ (q ∷ ps)) from zero r n d place there whole within =
     let same : from ≡ r = omega arith in
     record {
-      within = omega (arith, length-append p (joined (q ∷ ps)));
-      part = rw same (first p (joined (q ∷ ps)) r n within);
+      within = omega (arith, length-append p (pieces_bytes (q ∷ ps)));
+      part = rw same (first p (pieces_bytes (q ∷ ps)) r n within);
     }
 run_in (p ∷ (q ∷ ps)) from (suc k) r n d place there whole within =
     let full = whole.0 in
     let rest = run_in (q ∷ ps) (from - 65536) k r n d (omega arith) (omega arith) whole.1 within in
     let low = rest.within in
     record {
-      within = omega (arith, length-append p (joined (q ∷ ps)));
-      part = ap (take n) (later p (joined (q ∷ ps)) from full (omega arith)) ∙ rest.part;
+      within = omega (arith, length-append p (pieces_bytes (q ∷ ps)));
+      part = ap (take n) (later p (pieces_bytes (q ∷ ps)) from full (omega arith)) ∙ rest.part;
     }
 
 -- the bytes that a piece reads at its byte `from % 65536` are those of the image at byte `from`
-pub read_in : (pieces lent : List (List ℕ)) (image piece : List ℕ) (from n : ℕ) → AreWhole pieces
-    → joined pieces ≡ image → lent ≡ pieces → true ≡ nat_lt (from / 65536) (length lent)
+pub read_in : (pieces lent : List (List ℕ)) (image piece : List ℕ) (from n : ℕ) → PiecesAreWhole pieces
+    → pieces_bytes pieces ≡ image → lent ≡ pieces → true ≡ nat_lt (from / 65536) (length lent)
     → piece ≡ get_or lent (from / 65536) piece → from % 65536 + n ≤ length piece
     → (from + n ≤ length image) × (take n (drop from image) ≡ take n (drop (from % 65536) piece))
 read_in pieces lent image piece from n whole view same there is within =
@@ -219,13 +219,13 @@ read_in pieces lent image piece from n whole view same there is within =
     rw (← view) (run.within, rw found run.part)
 
 pub joined-more : (pieces : List (List ℕ)) (piece : List ℕ)
-    → joined (pieces ++ piece ∷ []) ≡ joined pieces ++ piece
+    → pieces_bytes (pieces ++ piece ∷ []) ≡ pieces_bytes pieces ++ piece
 joined-more [] piece = grind (arith, common_steps)
 joined-more (x ∷ xs) piece = grind (arith, joined-more xs piece, append_assoc)
 
-pub AreWhole-more : (pieces : List (List ℕ)) (piece : List ℕ) → AreWhole pieces
-    → length (joined pieces) % 65536 ≡ 0 → 0 < length piece → length piece ≤ 65536
-    → AreWhole (pieces ++ piece ∷ [])
+pub AreWhole-more : (pieces : List (List ℕ)) (piece : List ℕ) → PiecesAreWhole pieces
+    → length (pieces_bytes pieces) % 65536 ≡ 0 → 0 < length piece → length piece ≤ 65536
+    → PiecesAreWhole (pieces ++ piece ∷ [])
 AreWhole-more [] piece whole full some few = (some, few)
 AreWhole-more (x ∷ []) piece whole full some few = grind (arith, length-append)
 AreWhole-more (x ∷ (y ∷ ys)) piece whole full some few =

@@ -10,16 +10,16 @@ use Rattle.std.proofs.Math.Seq.{drop-append-add, take-append-add}
 use Rattle.bio.specs.Content.{Content, put, sector_of, writes}
 use Rattle.bio.specs.ContentLaws.{over-after, over-before, put-none, put-writes}
 use Rattle.sector_disk.proofs.ImageBack.{written_whole}
-use Rattle.sector_disk.specs.declared.call.Call.{Call}
-use Rattle.sector_disk.specs.declared.call.Change.TheVariants.{Image}
-use Rattle.sector_disk.specs.inside.Pieces.{AreWhole, joined, with_piece}
+use Rattle.sector_disk.specs.declared.call.PastCall.{PastCall}
+use Rattle.sector_disk.specs.declared.call.PastChange.TheVariants.{Image}
+use Rattle.sector_disk.specs.inside.Pieces.{PiecesAreWhole, pieces_bytes, with_piece}
 use Rattle.sector_disk.specs.inside.Storage.{IsFilled, content_at, place_of, value_in}
 
 -- the pieces after piece `k` was replaced by `piece`
 pub record IsReplaced (pieces : List (List ℕ)) (k : ℕ) (piece : List ℕ) : Type 0 where
   pub there : k < length pieces
-  pub whole : AreWhole (slice_set pieces k piece)
-  pub bytes : joined (slice_set pieces k piece) ≡ with_piece (65536 * k) piece (joined pieces)
+  pub whole : PiecesAreWhole (slice_set pieces k piece)
+  pub bytes : pieces_bytes (slice_set pieces k piece) ≡ with_piece (65536 * k) piece (pieces_bytes pieces)
 
 later : (first piece bytes : List ℕ) (from : ℕ) → length first ≡ 65536
     → first ++ with_piece from piece bytes ≡ with_piece (65536 + from) piece (first ++ bytes)
@@ -41,8 +41,8 @@ alone first piece bytes size =
     ap (λ xs. piece ++ xs) (sym (drop-append-add first bytes 0)
     ∙ ap (λ n. drop n (first ++ bytes)) (sym place))
 
-pub replaced : (pieces : List (List ℕ)) (k : ℕ) (piece : List ℕ) → AreWhole pieces
-    → length piece ≡ 65536 → 65536 * k + 65536 ≤ length (joined pieces)
+pub replaced : (pieces : List (List ℕ)) (k : ℕ) (piece : List ℕ) → PiecesAreWhole pieces
+    → length piece ≡ 65536 → 65536 * k + 65536 ≤ length (pieces_bytes pieces)
     → IsReplaced pieces k piece
 replaced [] k piece whole size within = absurd (omega arith)
 replaced (p ∷ []) zero piece whole size within = record {
@@ -55,23 +55,23 @@ replaced (p ∷ []) (suc k) piece whole size within =
 replaced (p ∷ (q ∷ ps)) zero piece whole size within = record {
   there = omega arith;
   whole = (size, whole.1);
-  bytes = alone p piece (joined (q ∷ ps)) whole.0;
+  bytes = alone p piece (pieces_bytes (q ∷ ps)) whole.0;
 }
 replaced (p ∷ (q ∷ ps)) (suc k) piece whole size within =
     let full = whole.0 in
-    let all = length-append p (joined (q ∷ ps)) in
+    let all = length-append p (pieces_bytes (q ∷ ps)) in
     let rest = replaced (q ∷ ps) k piece whole.1 size (omega arith) in
     let place : 65536 + 65536 * k ≡ 65536 * suc k = omega arith in
     record {
       there = let h = rest.there in omega arith;
       whole = whole_next ps k piece full rest.whole;
       bytes = ap (λ xs. p ++ xs) rest.bytes
-          ∙ later p piece (joined (q ∷ ps)) (65536 * k) full
-          ∙ ap (λ n. with_piece n piece (joined (p ∷ (q ∷ ps)))) place;
+          ∙ later p piece (pieces_bytes (q ∷ ps)) (65536 * k) full
+          ∙ ap (λ n. with_piece n piece (pieces_bytes (p ∷ (q ∷ ps)))) place;
     }
   where
     whole_next : (ps : List (List ℕ)) (k : ℕ) (piece : List ℕ) → length p ≡ 65536
-        → AreWhole (slice_set (q ∷ ps) k piece) → AreWhole (p ∷ slice_set (q ∷ ps) k piece)
+        → PiecesAreWhole (slice_set (q ∷ ps) k piece) → PiecesAreWhole (p ∷ slice_set (q ∷ ps) k piece)
     whole_next ps zero piece full whole = (full, whole)
     whole_next ps (suc k) piece full whole = (full, whole)
 
@@ -180,7 +180,7 @@ image_put bytes part first size within sector = elim (cases_lt sector first) [
     past after (inr more) =
         value_past new sector (omega (arith, long)) ∙ sym (value_past bytes sector more)
 
-pub value_put : (call : Call) (bytes now part : List ℕ) (first from : ℕ) → call.first ≡ 0
+pub value_put : (call : PastCall) (bytes now part : List ℕ) (first from : ℕ) → call.first ≡ 0
     → call.change ≡ Image bytes → from ≡ 512 * first → now ≡ with_piece from part bytes
     → length part ≡ 65536 → 512 * first + 65536 ≤ length bytes → (sector : ℕ)
     → unwrap_or (writes call.first now sector) (replicate 512 0)
@@ -188,7 +188,7 @@ pub value_put : (call : Call) (bytes now part : List ℕ) (first from : ℕ) →
 value_put call bytes now part first from zero_is change place is size within sector =
     grind (arith, image_put bytes part first size within sector)
 
-pub content_put : (call now : Call) (rest : List Call) (newest filled : List ℕ) (first : ℕ)
+pub content_put : (call now : PastCall) (rest : List PastCall) (newest filled : List ℕ) (first : ℕ)
     (part : List ℕ) → length part ≡ 65536 → IsFilled first 128 0 newest filled
     → ((sector : ℕ)
     → value_in (Some now) sector ≡ put (writes first part) (value_in (Some call)) sector)

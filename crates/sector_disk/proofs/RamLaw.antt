@@ -16,31 +16,31 @@ use Rattle.blockdev.specs.View.{View}
 use Rattle.sector_disk.proofs.FieldsKept.{kept_begun, past_begun, whole_table}
 use Rattle.sector_disk.proofs.NewPast.{begins_fresh}
 use Rattle.sector_disk.specs.Candidates.{view_of}
-use Rattle.sector_disk.specs.DiskView.{Begins}
-use Rattle.sector_disk.specs.inside.Storage.{IsKept, IsRam, is_table, past_of}
+use Rattle.sector_disk.specs.DiskView.{PastBegins}
+use Rattle.sector_disk.specs.inside.Storage.{IsStorage, IsRam, is_table, past_of}
 use Rattle.sector_disk.proofs.FieldsKept.{first_place, value-kept, values-in, values-out}
 use Rattle.sector_disk.proofs.ImageBack.{written_whole}
-use Rattle.sector_disk.specs.RamView.{DoesInRam, IsPut, ram_view, view_in}
+use Rattle.sector_disk.specs.RamView.{DoesInRam, PutsValues, ram_view, view_in}
 use Rattle.sector_disk.specs.declared.disk.ram.RamDisk.{RamDisk}
 use Rattle.blockdev.specs.View.{Writes}
 use Rattle.bio.specs.declared.outcome.DevError.{DevError}
 use Rattle.bio.specs.declared.outcome.DevError.TheVariants.{Memory}
 use Rattle.std.specs.Prelude.{Bool}
-use Rattle.sector_disk.specs.declared.call.Call.{Call}
-use Rattle.sector_disk.specs.declared.call.Change.TheVariants.{Image}
-use Rattle.sector_disk.specs.inside.Storage.{AreWithin, IsFilled, content_at, count_of, place_of}
-use Rattle.sector_disk.specs.inside.Storage.{value_at, value_in, values_of}
+use Rattle.sector_disk.specs.declared.call.PastCall.{PastCall}
+use Rattle.sector_disk.specs.declared.call.PastChange.TheVariants.{Image}
+use Rattle.sector_disk.specs.inside.Storage.{PlacesAreWithin, IsFilled, content_at, change_count, place_of}
+use Rattle.sector_disk.specs.inside.Storage.{value_at, value_in, change_values_of}
 
 pub ram_goes : (patch : Patch) (size : ℕ) (old new : Content) (faults more : ℕ) → faults ≤ more
     → Patched patch old new → DeviceFrame patch (view_in size old faults) (view_in size new more)
 ram_goes patch size old new faults more rises content = record {
   size = refl;
-  place = refl;
+  origin = refl;
   content = content;
   crash = λ left may. (left, may, patched-same patch left);
-  moment = omega arith;
-  gains = λ moment left h may. inl may;
-  keeps = λ moment left h may. may;
+  clock = omega arith;
+  gains = λ reading left h may. inl may;
+  keeps = λ reading left h may. may;
   faults = rises;
   lies = omega arith;
   can_lie = refl;
@@ -53,11 +53,11 @@ pub ram_done : (patch : Patch) (size : ℕ) (old new : Content) (faults : ℕ)
 ram_done patch size old new faults content =
     record { content = content; durable = λ fua. absurd cc }
 
-pub content_added : (calls : List Call) (call : Call) (newest filled : List ℕ) (count : ℕ)
-    → AreWithin calls newest → count ≡ count_of call.change
+pub content_added : (calls : List PastCall) (call : PastCall) (newest filled : List ℕ) (count : ℕ)
+    → PlacesAreWithin calls newest → count ≡ change_count call.change
     → IsFilled call.first count (length calls) newest filled → (sector : ℕ)
     → content_at (calls ++ call ∷ []) filled sector
-    ≡ put (values_of call) (content_at calls newest) sector
+    ≡ put (change_values_of call) (content_at calls newest) sector
 content_added calls call newest filled count within counted fills sector =
     elim (cases_lt sector call.first) [
       | inl low ↦ outside (inl low)
@@ -68,57 +68,57 @@ content_added calls call newest filled count within counted fills sector =
             (fills.within sector from high)
             ∙ ap (λ o. value_in o sector) (slice_get-append_here calls call [])
             ∙ ap (λ o. unwrap_or o (replicate 512 0)) value.1
-            ∙ sym (put-some (values_of call) (content_at calls newest) sector value.0 value.1)
+            ∙ sym (put-some (change_values_of call) (content_at calls newest) sector value.0 value.1)
         | inr after ↦ outside (inr after)
       ]
     ]
   where
     outside : (sector < call.first) ⊎ (call.first + count ≤ sector)
         → content_at (calls ++ call ∷ []) filled sector
-        ≡ put (values_of call) (content_at calls newest) sector
+        ≡ put (change_values_of call) (content_at calls newest) sector
     outside side =
         ap (λ place. value_at (calls ++ call ∷ []) place sector) (fills.outside sector side)
         ∙ value-kept calls call (place_of newest sector) sector (within.each sector)
-        ∙ sym (put-none (values_of call) (content_at calls newest) sector
+        ∙ sym (put-none (change_values_of call) (content_at calls newest) sector
         (values-out call sector (grind arith)))
 
 -- the call was added to a disk's calls, or nothing is changed
-pub record IsAdded (calls all : List Call) (newest filled : List ℕ) (call : Call) (count : ℕ)
+pub record IsAdded (calls all : List PastCall) (newest filled : List ℕ) (call : PastCall) (count : ℕ)
     (r : Result (Unit {0}) AllocError) : Type 0 where
-  pub counted : count ≡ count_of call.change
+  pub counted : count ≡ change_count call.change
   pub added : OnOk r (all ≡ calls ++ call ∷ [])
   pub filled_in : OnOk r (IsFilled call.first count (length calls) newest filled)
   pub kept : OnErr r ((all ≡ calls) × (filled ≡ newest))
 
-module _ (calls all : List Call) (newest filled : List ℕ) (call : Call) (count size faults : ℕ) where
-  pub added_content : (r : Result (Unit {0}) AllocError) → AreWithin calls newest
+module _ (calls all : List PastCall) (newest filled : List ℕ) (call : PastCall) (count size faults : ℕ) where
+  pub added_content : (r : Result (Unit {0}) AllocError) → PlacesAreWithin calls newest
       → IsAdded calls all newest filled call count r → OnOk r ((sector : ℕ)
-      → content_at all filled sector ≡ put (values_of call) (content_at calls newest) sector)
+      → content_at all filled sector ≡ put (change_values_of call) (content_at calls newest) sector)
   added_content (Ok done) within added = λ sector.
       ap (λ cs. content_at cs filled sector) added.added
       ∙ content_added calls call newest filled count within added.counted added.filled_in sector
   added_content (Err error) within added = tt
 
-  pub added_goes : (r : Result (Unit {0}) AllocError) → AreWithin calls newest
+  pub added_goes : (r : Result (Unit {0}) AllocError) → PlacesAreWithin calls newest
       → IsAdded calls all newest filled call count r
-      → DeviceFrame (values_of call) (view_in size (content_at calls newest) faults)
+      → DeviceFrame (change_values_of call) (view_in size (content_at calls newest) faults)
       (view_in size (content_at all filled) faults)
   added_goes (Ok done) within added =
-      ram_goes (values_of call) size _ _ faults faults (omega arith)
+      ram_goes (change_values_of call) size _ _ faults faults (omega arith)
       (λ sector. inr (added_content (Ok done) within added sector))
   added_goes (Err error) within added =
-      ram_goes (values_of call) size _ _ faults faults (omega arith)
+      ram_goes (change_values_of call) size _ _ faults faults (omega arith)
       (λ sector. inl (rw (added.kept.0, added.kept.1)))
 
-  pub added_lands : (r : Result (Unit {0}) AllocError) → AreWithin calls newest
+  pub added_lands : (r : Result (Unit {0}) AllocError) → PlacesAreWithin calls newest
       → IsAdded calls all newest filled call count r
-      → OnOk r (WriteDone (values_of call) false (view_in size (content_at calls newest) faults)
+      → OnOk r (WriteDone (change_values_of call) false (view_in size (content_at calls newest) faults)
       (view_in size (content_at all filled) faults))
   added_lands (Ok done) within added =
-      ram_done (values_of call) size _ _ faults (added_content (Ok done) within added)
+      ram_done (change_values_of call) size _ _ faults (added_content (Ok done) within added)
   added_lands (Err error) within added = tt
 
-pub content_same : (calls same : List Call) (newest table : List ℕ) → same ≡ calls → table ≡ newest
+pub content_same : (calls same : List PastCall) (newest table : List ℕ) → same ≡ calls → table ≡ newest
     → content_at same table ≡ content_at calls newest
 content_same calls same newest table calls_are table_is = rw (calls_are, table_is)
 
@@ -133,37 +133,37 @@ pub lands_from : (first : ℕ) (kept bytes : List ℕ) (size faults : ℕ) (mid 
     → OnOk r (WriteDone (writes first bytes) false (view_in size old faults) w)
 lands_from first kept bytes size faults mid old w r same is lands = grind arith
 
-pub image_held : (image : List ℕ) (none calls : List Call) (newest : List ℕ) (call : Call) (n : ℕ)
+pub image_held : (image : List ℕ) (none calls : List PastCall) (newest : List ℕ) (call : PastCall) (n : ℕ)
     → none ≡ [] → calls ≡ none ++ call ∷ [] → call.first ≡ 0 → call.change ≡ Image image
     → newest ≡ replicate n 0 → (sector : ℕ) → sector < length image / 512
     → content_at calls newest sector ≡ sector_of image sector
 image_held image none calls newest call n empty all zero_is change zeroes sector below =
     grind (arith, first_place, written_whole)
 
-pub kept_table : (sectors : ℕ) (calls : List Call) (newest base : List ℕ) (begun : ℕ)
+pub kept_table : (sectors : ℕ) (calls : List PastCall) (newest base : List ℕ) (begun : ℕ)
     → IsRam sectors calls newest → base ≡ newest → begun ≡ length calls
-    → IsKept sectors calls newest base begun begun false
+    → IsStorage sectors calls newest base begun begun false
 kept_table sectors calls newest base begun ram same count =
     rw (same, count) (kept_begun sectors calls newest ram.some ram.few
     (ap (is_table sectors) ram.table ∙ whole_table sectors) ram.within)
 
-pub begins_kept : (sectors : ℕ) (calls : List Call) (newest base : List ℕ) (begun : ℕ)
+pub begins_kept : (sectors : ℕ) (calls : List PastCall) (newest base : List ℕ) (begun : ℕ)
     → base ≡ newest → begun ≡ length calls
-    → Begins sectors (content_at calls newest)
+    → PastBegins sectors (content_at calls newest)
     (view_of sectors (content_at calls base) (past_of calls begun false))
 begins_kept sectors calls newest base begun same count =
     rw (same, count, past_begun calls)
     (begins_fresh sectors (content_at calls newest) (content_at calls newest) (λ s h. refl))
 
 -- the first `done` bytes of a write from sector `first` on are written, and nothing else
-pub record IsWritten (first : ℕ) (bytes : List ℕ) (done : ℕ) (v w : View) : Type 0 where
+pub record PartIsWritten (first : ℕ) (bytes : List ℕ) (done : ℕ) (v w : View) : Type 0 where
   pub whole : done % 512 ≡ 0
   pub within : done ≤ length bytes
   pub goes : DeviceFrame (below (first + done / 512) (writes first bytes)) v w
   pub lands : WriteDone (below (first + done / 512) (writes first bytes)) false v w
   pub faults : w.faults ≡ v.faults
 
-pub written_first : (first : ℕ) (bytes : List ℕ) (v : View) → IsWritten first bytes 0 v v
+pub written_first : (first : ℕ) (bytes : List ℕ) (v : View) → PartIsWritten first bytes 0 v v
 written_first first bytes v =
     let none = over-below (first + 0 / 512) first (length bytes / 512) (sector_of bytes) (omega arith) in
     record {
@@ -187,7 +187,7 @@ part_of first done count bytes whole counted within =
 
 module _ (first done count taken : ℕ) (bytes : List ℕ) (u v w : View) (same : taken ≡ count)
     (counted : count % 512 ≡ 0) (most : done + count ≤ length bytes)
-    (written : IsWritten first bytes done u v)
+    (written : PartIsWritten first bytes done u v)
     (goes : DeviceFrame (writes (first + done / 512) (take taken (drop done bytes))) v w) where
   values : SameValues (writes (first + done / 512) (take taken (drop done bytes)))
       (between (first + done / 512) (first + (done + count) / 512) (writes first bytes))
@@ -205,7 +205,7 @@ module _ (first done count taken : ℕ) (bytes : List ℕ) (u v w : View) (same 
 
   pub written_next
       : WriteDone (writes (first + done / 512) (take taken (drop done bytes))) false v w
-      → w.faults ≡ v.faults → IsWritten first bytes (done + count) u w
+      → w.faults ≡ v.faults → PartIsWritten first bytes (done + count) u w
   written_next lands same = record {
     whole = let h = written.whole in omega arith;
     within = most;
@@ -217,7 +217,7 @@ module _ (first done count taken : ℕ) (bytes : List ℕ) (u v w : View) (same 
     faults = same ∙ written.faults;
   }
 
-pub written_all : (first done : ℕ) (bytes : List ℕ) (u v : View) → IsWritten first bytes done u v
+pub written_all : (first done : ℕ) (bytes : List ℕ) (u v : View) → PartIsWritten first bytes done u v
     → length bytes ≤ done → WriteDone (writes first bytes) false u v
 written_all first done bytes u v written past =
     lands_all (first + done / 512) (writes first bytes) false u v
@@ -230,7 +230,7 @@ pub does_all : (old new : RamDisk) (first now : ℕ) (bytes : List ℕ) (fua : B
 does_all old new first now bytes fua plain lands same = rw plain (refl, lands.content, same)
 
 pub puts_some : (patch : Patch) (now : ℕ) (r : Result ℕ DevError) (v w : View) → r ≡ Err Memory
-    → DeviceFrame patch v w → w.faults ≡ v.faults → IsPut patch now r v w
+    → DeviceFrame patch v w → w.faults ≡ v.faults → PutsValues patch now r v w
 puts_some patch now r v w is goes same = rw is (goes.content, same)
 
 pub does_some : (old new : RamDisk) (first now : ℕ) (bytes : List ℕ) (fua : Bool)

@@ -17,16 +17,16 @@ use Rattle.bio.specs.PlaceLaws.{slice_get-within}
 use Rattle.blockdev.specs.Law.{AfterPatch, AfterWhole, DeviceFrame, WriteDone, FlushDone}
 use Rattle.blockdev.specs.View.{IsLawful}
 use Rattle.sector_disk.specs.Candidates.{Cache, Flushes, LeftDuring, LeftSince, MayLeave, Puts}
-use Rattle.sector_disk.specs.Candidates.{Step, after_step, cache_after, candidates_after, choice_of}
+use Rattle.sector_disk.specs.Candidates.{PastStep, after_step, cache_after, candidates_after, choice_of}
 use Rattle.sector_disk.specs.Candidates.{left_by, settled, unsynced_below, view_of}
-use Rattle.sector_disk.specs.declared.call.Call.{Call}
-use Rattle.sector_disk.specs.declared.call.Change.{Change}
-use Rattle.sector_disk.specs.declared.call.Change.TheVariants.{Write, Image, Discard}
+use Rattle.sector_disk.specs.declared.call.PastCall.{PastCall}
+use Rattle.sector_disk.specs.declared.call.PastChange.{PastChange}
+use Rattle.sector_disk.specs.declared.call.PastChange.TheVariants.{Write, Image, Discard}
 use Rattle.sector_disk.specs.declared.disk.SectorDisk.{SectorDisk}
 use Rattle.sector_disk.specs.DiskView.{shown_of, start_of}
 use Rattle.sector_disk.specs.DiskView as shown
-use Rattle.sector_disk.specs.inside.Storage.{change_values, flushed_if, step_after, steps_of}
-use Rattle.sector_disk.specs.inside.Storage.{value_at, value_in, values_of}
+use Rattle.sector_disk.specs.inside.Storage.{change_values, flushed_if, step_after, stored_steps}
+use Rattle.sector_disk.specs.inside.Storage.{value_at, value_in, change_values_of}
 
 -- Laws of candidates: the view of a disk, which its candidates define, satisfies the law of
 -- devices.
@@ -43,8 +43,8 @@ one_contains x y has = at has.0 has.1 has.2
     at (suc k) h e = absurd (omega arith)
 
 -- the value of each sector is one of its candidates
-abbrev pub IsCurrent : Cache → Type 0
-IsCurrent cache = (sector : ℕ) → Contains (cache.may sector) (cache.now sector)
+abbrev pub ValuesAreCandidates : Cache → Type 0
+ValuesAreCandidates cache = (sector : ℕ) → Contains (cache.may sector) (cache.now sector)
 
 -- Each candidate of a sector after a call was a candidate before, or is the call's value.
 candidate_torn : (value : Option (List ℕ)) (fua : Bool) (old : List (List ℕ)) (now left : List ℕ)
@@ -86,7 +86,7 @@ candidate_kept None old before has = has
 candidate_kept (Some value) old before has = Contains-append_left old (value ∷ []) before has
 
 -- Each content that a crash may leave after a call is one that a crash could leave before, patched.
-pub left-torn : (patch : Patch) (fua : Bool) (cache : Cache) (left : Content) → IsCurrent cache
+pub left-torn : (patch : Patch) (fua : Bool) (cache : Cache) (left : Content) → ValuesAreCandidates cache
     → MayLeave (after_step (Puts patch fua) cache) left → AfterPatch patch (MayLeave cache) left
 left-torn patch fua cache left current may =
     let at : (sector : ℕ) → (before : List ℕ) × Contains (cache.may sector) before
@@ -98,7 +98,7 @@ left-torn patch fua cache left current may =
 -- Each content that a crash may leave after a call with FUA is one that it could leave before, with
 -- all of the call's values.
 pub left-durable : (patch : Patch) (fua : Bool) (cache : Cache) (left : Content) → IsTrue fua
-    → IsCurrent cache
+    → ValuesAreCandidates cache
     → MayLeave (after_step (Puts patch fua) cache) left → AfterWhole patch (MayLeave cache) left
 left-durable patch fua cache left is current may =
     let at : (sector : ℕ) → (before : List ℕ) × Contains (cache.may sector) before
@@ -119,14 +119,14 @@ pub left-settled : (content left : Content) → MayLeave (settled content) left 
 left-settled content left may sector = one_contains (content sector) (left sector) (may sector)
 
 -- Each content that a crash may leave after a flush, a crash could leave before the flush.
-pub left-flushed : (cache : Cache) (left : Content) → IsCurrent cache
+pub left-flushed : (cache : Cache) (left : Content) → ValuesAreCandidates cache
     → MayLeave (settled cache.now) left → MayLeave cache left
 left-flushed cache left current may = λ sector.
     let Has : List ℕ → Type 0 = λ value. Contains (cache.may sector) value in
     subst Has (sym (left-settled cache.now left may sector)) (current sector)
 
 -- After any past, the value of each sector is one of its candidates.
-pub is_current : (start : Content) (past : List Step) → IsCurrent (cache_after start past)
+pub is_current : (start : Content) (past : List PastStep) → ValuesAreCandidates (cache_after start past)
 is_current start [] = λ sector. contains_one (start sector)
 is_current start (Puts patch fua ∷ past) = λ sector.
     let cache = cache_after start past in
@@ -135,7 +135,7 @@ is_current start (Puts patch fua ∷ past) = λ sector.
 is_current start (Flushes ∷ past) = λ sector. contains_one ((cache_after start past).now sector)
 
 -- Each content that a crash may leave after a step, a crash may leave during the step.
-during : (start : Content) (step : Step) (past : List Step) (left : Content)
+during : (start : Content) (step : PastStep) (past : List PastStep) (left : Content)
     → MayLeave (cache_after start (step ∷ past)) left
     → LeftDuring step (cache_after start past) left
 during start (Puts patch fua) past left may = grind (arith, left-torn, is_current)
@@ -156,17 +156,17 @@ match_false true P Q is has = cc
 match_false false P Q is has = has
 
 -- Whatever a crash now may leave, a crash since an earlier reading may have left.
-pub since-nested : (start : Content) (past : List Step) (moment : ℕ) (left : Content)
-    → moment ≤ length past
-    → MayLeave (cache_after start past) left → LeftSince start past moment left
-since-nested start [] moment left h may = may
-since-nested start (step ∷ past) moment left h may =
-    match_intro (nat_lt (length past) moment) (MayLeave (cache_after start (step ∷ past)) left)
-    (LeftSince start past moment left ⊎ LeftDuring step (cache_after start past) left)
+pub since-nested : (start : Content) (past : List PastStep) (reading : ℕ) (left : Content)
+    → reading ≤ length past
+    → MayLeave (cache_after start past) left → LeftSince start past reading left
+since-nested start [] reading left h may = may
+since-nested start (step ∷ past) reading left h may =
+    match_intro (nat_lt (length past) reading) (MayLeave (cache_after start (step ∷ past)) left)
+    (LeftSince start past reading left ⊎ LeftDuring step (cache_after start past) left)
     (λ after. may) (λ before. inr (during start step past left may))
 
 -- Whatever a crash since now may have left, a crash now may leave.
-pub since-now : (start : Content) (past : List Step) (left : Content)
+pub since-now : (start : Content) (past : List PastStep) (left : Content)
     → LeftSince start past (length past) left
     → MayLeave (cache_after start past) left
 since-now start [] left may = may
@@ -174,42 +174,42 @@ since-now start (step ∷ past) left may = grind (arith, match_true, lt-ltb)
 
 -- If a crash since an earlier reading may have left a content, a crash before the step or during
 -- the step may have left it.
-pub since-step : (start : Content) (step : Step) (past : List Step) (moment : ℕ) (left : Content)
-    → moment ≤ length past
-    → LeftSince start (step ∷ past) moment left
-    → LeftSince start past moment left ⊎ LeftDuring step (cache_after start past) left
-since-step start step past moment left h may = grind (arith, match_false, le-ltb)
+pub since-step : (start : Content) (step : PastStep) (past : List PastStep) (reading : ℕ) (left : Content)
+    → reading ≤ length past
+    → LeftSince start (step ∷ past) reading left
+    → LeftSince start past reading left ⊎ LeftDuring step (cache_after start past) left
+since-step start step past reading left h may = grind (arith, match_false, le-ltb)
 
 -- Each content that a crash may have left before a step is still one that a crash may have left
 -- after the step.
-pub since-kept : (start : Content) (step : Step) (past : List Step) (moment : ℕ) (left : Content)
-    → moment ≤ length past
-    → LeftSince start past moment left → LeftSince start (step ∷ past) moment left
-since-kept start step past moment left h may = grind (arith, match_intro, le-ltb)
+pub since-kept : (start : Content) (step : PastStep) (past : List PastStep) (reading : ℕ) (left : Content)
+    → reading ≤ length past
+    → LeftSince start past reading left → LeftSince start (step ∷ past) reading left
+since-kept start step past reading left h may = grind (arith, match_intro, le-ltb)
 
 -- Whatever a crash during a step may leave, a crash since the step's start may have left.
-pub since-during : (start : Content) (step : Step) (past : List Step) (left : Content)
+pub since-during : (start : Content) (step : PastStep) (past : List PastStep) (left : Content)
     → LeftDuring step (cache_after start past) left
     → LeftSince start (step ∷ past) (length past) left
 since-during start step past left during_it = grind (arith, match_intro, le-ltb)
 
 -- A write or a discard changes the view of a disk within the call's frame.
-pub goes_puts : (size : ℕ) (start : Content) (past : List Step) (patch : Patch) (fua : Bool)
+pub goes_puts : (size : ℕ) (start : Content) (past : List PastStep) (patch : Patch) (fua : Bool)
     → DeviceFrame patch (view_of size start past) (view_of size start (Puts patch fua ∷ past))
 goes_puts size start past patch fua =
     grind (arith, patched-whole, left-torn, is_current, since-step, since-kept)
 
 -- A write or a discard of a disk is done (`WriteDone`).
-pub lands_puts : (size : ℕ) (start : Content) (past : List Step) (patch : Patch) (fua : Bool)
+pub lands_puts : (size : ℕ) (start : Content) (past : List PastStep) (patch : Patch) (fua : Bool)
     → WriteDone patch fua (view_of size start past) (view_of size start (Puts patch fua ∷ past))
 lands_puts size start past patch fua = grind (arith, left-durable, is_current)
 
 -- A flush changes the view of a disk within the frame of a flush.
-pub goes_flush : (size : ℕ) (start : Content) (past : List Step)
+pub goes_flush : (size : ℕ) (start : Content) (past : List PastStep)
     → DeviceFrame nothing (view_of size start past) (view_of size start (Flushes ∷ past))
 goes_flush size start past = record {
   size = refl;
-  place = refl;
+  origin = refl;
   content = λ sector. inl refl;
   crash =
       λ left may. (
@@ -217,12 +217,12 @@ goes_flush size start past = record {
         left-flushed (cache_after start past) left (is_current start past) may,
         patched-same nothing left,
       );
-  moment = omega arith;
-  gains = λ moment left h may. elim (since-step start Flushes past moment left h may) [
+  clock = omega arith;
+  gains = λ reading left h may. elim (since-step start Flushes past reading left h may) [
     | inl before ↦ inl before
     | inr during_it ↦ inr (left, during_it, patched-same nothing left)
   ];
-  keeps = λ moment left h may. since-kept start Flushes past moment left h may;
+  keeps = λ reading left h may. since-kept start Flushes past reading left h may;
   faults = omega arith;
   lies = omega arith;
   can_lie = refl;
@@ -230,7 +230,7 @@ goes_flush size start past = record {
 }
 
 -- A flush of a disk is done (`FlushDone`): a crash then leaves the content.
-pub syncs_flush : (size : ℕ) (start : Content) (past : List Step)
+pub syncs_flush : (size : ℕ) (start : Content) (past : List PastStep)
     → FlushDone (view_of size start (Flushes ∷ past))
 syncs_flush size start past =
     record { only = λ left may. left-settled (cache_after start past).now left may }
@@ -240,7 +240,7 @@ pub syncs_start : (size : ℕ) (start : Content) → FlushDone (view_of size sta
 syncs_start size start = record { only = λ left may. left-settled start left may }
 
 -- each value that the steps put has 512 bytes
-abbrev pub HasWholeSteps : List Step → Type 0
+abbrev pub HasWholeSteps : List PastStep → Type 0
 HasWholeSteps [] = Unit {0}
 HasWholeSteps (Puts patch fua ∷ past) = HasWholeValues patch × HasWholeSteps past
 HasWholeSteps (Flushes ∷ past) = HasWholeSteps past
@@ -263,7 +263,7 @@ candidates-whole (Some x) false old values whole =
       | inr after ↦ one-whole x (values x refl) other after
     ]
 
-may-whole : (size : ℕ) (start : Content) (past : List Step) → HasWholeSectors size start
+may-whole : (size : ℕ) (start : Content) (past : List PastStep) → HasWholeSectors size start
     → HasWholeSteps past
     → (sector : ℕ) → sector < size → AreWhole ((cache_after start past).may sector)
 may-whole size start [] whole steps sector h = one-whole (start sector) (whole sector h)
@@ -275,13 +275,13 @@ may-whole size start (Flushes ∷ past) whole steps sector h =
     one-whole now (may-whole size start past whole steps sector h now
     (is_current start past sector))
 
-left-whole : (size : ℕ) (start : Content) (past : List Step) (left : Content)
+left-whole : (size : ℕ) (start : Content) (past : List PastStep) (left : Content)
     → HasWholeSectors size start → HasWholeSteps past
     → MayLeave (cache_after start past) left → HasWholeSectors size left
 left-whole size start past left whole steps may =
     λ sector h. may-whole size start past whole steps sector h (left sector) (may sector)
 
-during-whole : (size : ℕ) (start : Content) (step : Step) (past : List Step) (left : Content)
+during-whole : (size : ℕ) (start : Content) (step : PastStep) (past : List PastStep) (left : Content)
     → HasWholeSectors size start
     → HasWholeSteps (step ∷ past) → LeftDuring step (cache_after start past) left
     → HasWholeSectors size left
@@ -291,35 +291,35 @@ during-whole size start (Puts patch fua) past left whole steps during_it =
 during-whole size start Flushes past left whole steps during_it =
     left-whole size start past left whole steps during_it
 
-earlier-whole : (step : Step) (past : List Step) → HasWholeSteps (step ∷ past) → HasWholeSteps past
+earlier-whole : (step : PastStep) (past : List PastStep) → HasWholeSteps (step ∷ past) → HasWholeSteps past
 earlier-whole (Puts patch fua) past steps = steps.1
 earlier-whole Flushes past steps = steps
 
 -- If the first content and all values that were put are whole sectors, whatever a crash left has
 -- whole sectors.
-pub since-whole : (size : ℕ) (start : Content) (past : List Step) → HasWholeSectors size start
+pub since-whole : (size : ℕ) (start : Content) (past : List PastStep) → HasWholeSectors size start
     → HasWholeSteps past
-    → (moment : ℕ) (left : Content) → LeftSince start past moment left → HasWholeSectors size left
-since-whole size start [] whole steps moment left may =
+    → (reading : ℕ) (left : Content) → LeftSince start past reading left → HasWholeSectors size left
+since-whole size start [] whole steps reading left may =
     left-whole size start [] left whole steps may
-since-whole size start (step ∷ past) whole steps moment left may =
-    elim (cases_lt (length past) moment) [
+since-whole size start (step ∷ past) whole steps reading left may =
+    elim (cases_lt (length past) reading) [
       | inl after ↦
           left-whole size start (step ∷ past) left whole steps (
-          match_true (nat_lt (length past) moment) (MayLeave (cache_after start (step ∷ past)) left)
-          (LeftSince start past moment left ⊎ LeftDuring step (cache_after start past) left)
-          (lt-ltb (length past) moment after) may
+          match_true (nat_lt (length past) reading) (MayLeave (cache_after start (step ∷ past)) left)
+          (LeftSince start past reading left ⊎ LeftDuring step (cache_after start past) left)
+          (lt-ltb (length past) reading after) may
           )
-      | inr before ↦ elim (since-step start step past moment left before may) [
+      | inr before ↦ elim (since-step start step past reading left before may) [
         | inl earlier ↦
-            since-whole size start past whole (earlier-whole step past steps) moment left earlier
+            since-whole size start past whole (earlier-whole step past steps) reading left earlier
         | inr during_it ↦ during-whole size start step past left whole steps during_it
       ]
     ]
 
 -- If the size is 1 to 1,048,576, and the first content and all values that were put have whole
 -- sectors, the view is lawful.
-pub view-lawful : (size : ℕ) (start : Content) (past : List Step) → 0 < size → size ≤ 1048576
+pub view-lawful : (size : ℕ) (start : Content) (past : List PastStep) → 0 < size → size ≤ 1048576
     → HasWholeSectors size start
     → HasWholeSteps past → IsLawful (view_of size start past)
 view-lawful size start past some few whole steps =
@@ -342,7 +342,7 @@ at-contains xs k h =
     )
 
 -- A crash may leave the content that `picks` leave, whatever `picks` are.
-pub picks_leave_one : (cache : Cache) (picks : List ℕ) → IsCurrent cache
+pub picks_leave_one : (cache : Cache) (picks : List ℕ) → ValuesAreCandidates cache
     → MayLeave cache (left_by cache picks)
 picks_leave_one cache picks current = λ sector.
     let one = current sector in
@@ -423,16 +423,16 @@ each_is_picked size cache left may =
 -- The view of a `SectorDisk` is lawful.
 
 -- each value that a call puts has 512 bytes
-values-whole : (call : Call) → HasWholeValues (values_of call)
+values-whole : (call : PastCall) → HasWholeValues (change_values_of call)
 values-whole call = at call.first call.change
   where
-    at : (first : ℕ) (change : Change) → HasWholeValues (change_values first change)
+    at : (first : ℕ) (change : PastChange) → HasWholeValues (change_values first change)
     at first (Write bytes) = writes-whole first bytes
     at first (Image bytes) = writes-whole first bytes
     at first (Discard count) = discards-whole first count
 
 -- The value of a sector by the call at any index has 512 bytes.
-pub value_at-whole : (calls : List Call) (place sector : ℕ)
+pub value_at-whole : (calls : List PastCall) (place sector : ℕ)
     → length (value_at calls place sector) ≡ 512
 value_at-whole calls place sector = at (slice_get calls place)
   where
@@ -441,29 +441,29 @@ value_at-whole calls place sector = at (slice_get calls place)
     there None whole = refl
     there (Some x) whole = whole x refl
 
-    at : (o : Option Call) → length (value_in o sector) ≡ 512
+    at : (o : Option PastCall) → length (value_in o sector) ≡ 512
     at None = refl
-    at (Some call) = there (values_of call sector) (values-whole call sector)
+    at (Some call) = there (change_values_of call sector) (values-whole call sector)
 
-flushed-whole : (flushed : Bool) (past : List Step) → HasWholeSteps past
+flushed-whole : (flushed : Bool) (past : List PastStep) → HasWholeSteps past
     → HasWholeSteps (flushed_if flushed past)
 flushed-whole true past whole = whole
 flushed-whole false past whole = whole
 
 -- Each value that the steps of a disk's past put has 512 bytes.
-steps-whole : (calls : List Call) (begun n : ℕ) → HasWholeSteps (steps_of calls begun n)
+steps-whole : (calls : List PastCall) (begun n : ℕ) → HasWholeSteps (stored_steps calls begun n)
 steps-whole calls begun zero = tt
 steps-whole calls begun (suc n) = at (slice_get calls (begun + n)) (steps-whole calls begun n)
   where
-    at : (o : Option Call) → HasWholeSteps (steps_of calls begun n)
-        → HasWholeSteps (step_after o (steps_of calls begun n))
+    at : (o : Option PastCall) → HasWholeSteps (stored_steps calls begun n)
+        → HasWholeSteps (step_after o (stored_steps calls begun n))
     at None earlier = earlier
     at (Some call) earlier = grind (arith, values-whole, flushed-whole)
 
 -- The view of each disk is lawful.
 pub disk_lawful : (disk : SectorDisk) → IsLawful (shown_of disk)
 disk_lawful disk =
-    view-lawful disk.sectors (start_of disk) (shown.steps_of disk) disk.kept.some disk.kept.few
+    view-lawful disk.sectors (start_of disk) (shown.past_steps disk) disk.kept.some disk.kept.few
     (λ sector h. value_at-whole disk.calls.items _ sector)
     (flushed-whole disk.flushed _
     (steps-whole disk.calls.items disk.begun (length disk.calls.items - disk.begun)))

@@ -16,9 +16,9 @@ pub record Cache : Type 0 where
   pub may : ℕ → List (List ℕ)
 
 -- A step of a disk's past: a write or a discard puts values, or a flush makes all values durable.
-pub data Step : Type 0 where
-  Puts : (patch : Patch) (fua : Bool) → Step
-  Flushes : Step
+pub data PastStep : Type 0 where
+  Puts : (patch : Patch) (fua : Bool) → PastStep
+  Flushes : PastStep
 
 -- a disk on which each sector's value is durable
 abbrev pub settled : Content → Cache
@@ -32,7 +32,7 @@ candidates_after (Some value) true old = value ∷ []
 candidates_after (Some value) false old = old ++ value ∷ []
 
 -- the cache after one more step
-abbrev pub after_step : Step → Cache → Cache
+abbrev pub after_step : PastStep → Cache → Cache
 after_step (Puts patch fua) cache =
     record {
       now = put patch cache.now;
@@ -41,7 +41,7 @@ after_step (Puts patch fua) cache =
 after_step Flushes cache = settled cache.now
 
 -- the cache of a disk with the first content `start`, after the steps of its past, newest first
-abbrev pub cache_after : Content → List Step → Cache
+abbrev pub cache_after : Content → List PastStep → Cache
 cache_after start [] = settled start
 cache_after start (step ∷ past) = after_step step (cache_after start past)
 
@@ -51,26 +51,26 @@ MayLeave cache left = (sector : ℕ) → Contains (cache.may sector) (left secto
 
 -- A crash during the step may leave the content. During a write or discard, this is a content that
 -- a crash could leave before, patched. During a flush, it is one that a crash could leave before.
-abbrev pub LeftDuring : Step → Cache → Content → Type 0
+abbrev pub LeftDuring : PastStep → Cache → Content → Type 0
 LeftDuring (Puts patch fua) cache = AfterPatch patch (MayLeave cache)
 LeftDuring Flushes cache = MayLeave cache
 
--- A crash may have left the content `left` since the clock had the reading `moment`, between two
+-- A crash may have left the content `left` since the clock had this reading, between two
 -- steps or during one. The clock counts the steps.
-abbrev pub LeftSince : Content → List Step → ℕ → Content → Type 0
-LeftSince start [] moment left = MayLeave (settled start) left
-LeftSince start (step ∷ past) moment left = MatchBool (nat_lt (length past) moment)
+abbrev pub LeftSince : Content → List PastStep → ℕ → Content → Type 0
+LeftSince start [] reading left = MayLeave (settled start) left
+LeftSince start (step ∷ past) reading left = MatchBool (nat_lt (length past) reading)
     (MayLeave (cache_after start (step ∷ past)) left)
-    (LeftSince start past moment left ⊎ LeftDuring step (cache_after start past) left)
+    (LeftSince start past reading left ⊎ LeftDuring step (cache_after start past) left)
 
 -- the view of a disk with this size, first content and past: it never fails and never lies
-abbrev pub view_of : ℕ → Content → List Step → View
+abbrev pub view_of : ℕ → Content → List PastStep → View
 view_of size start past = record {
   size = size;
-  place = record { origin = 0; disk = size };
+  origin = record { sector = 0; disk = size };
   content = (cache_after start past).now;
   crash = MayLeave (cache_after start past);
-  moment = length past;
+  clock = length past;
   since = LeftSince start past;
   faults = 0;
   lies = 0;

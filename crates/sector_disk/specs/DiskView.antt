@@ -7,7 +7,7 @@ use Rattle.bio.specs.declared.outcome.DevError.TheVariants.{Io, Memory}
 use Rattle.blockdev.specs.View.{Call, View}
 use Rattle.blockdev.specs.View as calls
 use Rattle.blockdev.specs.Law.{FlushDone}
-use Rattle.sector_disk.specs.Candidates.{Cache, Flushes, Puts, Step, cache_after, view_of}
+use Rattle.sector_disk.specs.Candidates.{Cache, Flushes, Puts, PastStep, cache_after, view_of}
 use Rattle.sector_disk.specs.declared.disk.SectorDisk.{SectorDisk}
 use Rattle.sector_disk.specs.inside.Storage.{content_at, past_of}
 
@@ -16,25 +16,25 @@ abbrev pub start_of : SectorDisk → Content
 start_of disk = content_at disk.calls.items disk.base.items
 
 -- the steps of the disk's past, newest first
-abbrev pub steps_of : SectorDisk → List Step
-steps_of disk = past_of disk.calls.items disk.begun disk.flushed
+abbrev pub past_steps : SectorDisk → List PastStep
+past_steps disk = past_of disk.calls.items disk.begun disk.flushed
 
 -- the disk's content, and what a crash may leave of it
 abbrev pub cache_of : SectorDisk → Cache
-cache_of disk = cache_after (start_of disk) (steps_of disk)
+cache_of disk = cache_after (start_of disk) (past_steps disk)
 
 -- the view of the disk in contracts
 abbrev pub shown_of : SectorDisk → View
-shown_of disk = view_of disk.sectors (start_of disk) (steps_of disk)
+shown_of disk = view_of disk.sectors (start_of disk) (past_steps disk)
 
 -- `new` has the past `steps`, and the size and first content of `old`
-pub record HasPast (old new : SectorDisk) (steps : List Step) : Type 0 where
+pub record HasPast (old new : SectorDisk) (steps : List PastStep) : Type 0 where
   pub sectors : new.sectors ≡ old.sectors
   pub start : start_of new ≡ start_of old
-  pub past : steps_of new ≡ steps
+  pub past : past_steps new ≡ steps
 
 -- the past after a flush; a flush that follows another adds nothing
-abbrev pub flushed_after : List Step → List Step
+abbrev pub flushed_after : List PastStep → List PastStep
 flushed_after [] = Flushes ∷ []
 flushed_after (Flushes ∷ past) = Flushes ∷ past
 flushed_after (Puts patch fua ∷ past) = Flushes ∷ Puts patch fua ∷ past
@@ -47,18 +47,18 @@ IsDoneOrRefused now (Err Memory) done unchanged = unchanged
 IsDoneOrRefused now (Err Io) done unchanged = ⊥
 
 -- The exact effect and result of a call of a disk.
-abbrev pub Does : SectorDisk → Call → ℕ → Result ℕ DevError → SectorDisk → Type 0
-Does old (calls.Reads first before after) now result new =
-    (result ≡ Ok now) × HasPast old new (steps_of old)
+abbrev pub DoesOnDisk : SectorDisk → Call → ℕ → Result ℕ DevError → SectorDisk → Type 0
+DoesOnDisk old (calls.Reads first before after) now result new =
+    (result ≡ Ok now) × HasPast old new (past_steps old)
     × (after ≡ gather (cache_of old).now first (length before / 512))
-Does old (calls.Writes first bytes fua) now result new =
-    IsDoneOrRefused now result (HasPast old new (Puts (writes first bytes) fua ∷ steps_of old))
-    (HasPast old new (steps_of old))
-Does old (calls.Discards first count) now result new =
-    IsDoneOrRefused now result (HasPast old new (Puts (discards first count) false ∷ steps_of old))
-    (HasPast old new (steps_of old))
-Does old calls.Flushes now result new =
-    (result ≡ Ok now) × HasPast old new (flushed_after (steps_of old))
+DoesOnDisk old (calls.Writes first bytes fua) now result new =
+    IsDoneOrRefused now result (HasPast old new (Puts (writes first bytes) fua ∷ past_steps old))
+    (HasPast old new (past_steps old))
+DoesOnDisk old (calls.Discards first count) now result new =
+    IsDoneOrRefused now result (HasPast old new (Puts (discards first count) false ∷ past_steps old))
+    (HasPast old new (past_steps old))
+DoesOnDisk old calls.Flushes now result new =
+    (result ≡ Ok now) × HasPast old new (flushed_after (past_steps old))
 
 -- The sizes that a disk and its image may have, and the view of a disk whose past begins.
 
@@ -75,8 +75,8 @@ pub record IsImageSize (length : ℕ) : Type 0 where
 
 -- The past of a device of `sectors` sectors begins with the content `start`: a crash leaves only
 -- this content, and the clock is at 0.
-pub record Begins (sectors : ℕ) (start : Content) (v : View) : Type 0 where
+pub record PastBegins (sectors : ℕ) (start : Content) (v : View) : Type 0 where
   pub size : v.size ≡ sectors
   pub content : (sector : ℕ) → sector < sectors → v.content sector ≡ start sector
   pub only : FlushDone v
-  pub moment : v.moment ≡ 0
+  pub clock : v.clock ≡ 0

@@ -17,10 +17,10 @@ use Rattle.sector_disk.specs.inside.Storage.{content_at, place_of}
 abbrev pub view_in : ℕ → Content → ℕ → View
 view_in size content faults = record {
   size = size;
-  place = record { origin = 0; disk = size };
+  origin = record { sector = 0; disk = size };
   content = content;
   crash = HasWholeSectors size;
-  moment = 0;
+  clock = 0;
   since = λ _. HasWholeSectors size;
   faults = faults;
   lies = 0;
@@ -40,13 +40,13 @@ pub record HoldsImage (image : List ℕ) (v : View) : Type 0 where
 
 -- The result of a call that puts values. With an Ok all of them are put, and otherwise some may be.
 -- Lack of memory isn't counted as a fault.
-abbrev pub IsPut : Patch → ℕ → Result ℕ DevError → View → View → Type 0
-IsPut patch now (Ok end) old new =
+abbrev pub PutsValues : Patch → ℕ → Result ℕ DevError → View → View → Type 0
+PutsValues patch now (Ok end) old new =
     (end ≡ now) × ((sector : ℕ) → new.content sector ≡ put patch old.content sector)
     × (new.faults ≡ old.faults)
-IsPut patch now (Err Memory) old new =
+PutsValues patch now (Err Memory) old new =
     Patched patch old.content new.content × (new.faults ≡ old.faults)
-IsPut patch now (Err Io) old new = ⊥
+PutsValues patch now (Err Io) old new = ⊥
 
 -- the call failed and is counted, and the content is unchanged
 pub record IsFailed (result : Result ℕ DevError) (old new : View) : Type 0 where
@@ -60,11 +60,11 @@ DoesInRam old (calls.Reads first before after) now result new =
     (result ≡ Ok now) × (new ≡ old)
     × (after ≡ gather (ram_view old).content first (length before / 512))
 DoesInRam old (calls.Writes first bytes false) now result new =
-    IsPut (writes first bytes) now result (ram_view old) (ram_view new)
+    PutsValues (writes first bytes) now result (ram_view old) (ram_view new)
 DoesInRam old (calls.Writes first bytes true) now result new =
     IsFailed result (ram_view old) (ram_view new)
 DoesInRam old (calls.Discards first count) now result new =
-    IsPut (discards first count) now result (ram_view old) (ram_view new)
+    PutsValues (discards first count) now result (ram_view old) (ram_view new)
 DoesInRam old calls.Flushes now result new = IsFailed result (ram_view old) (ram_view new)
 
 pub ram_lawful : (disk : RamDisk) → IsLawful (ram_view disk)
@@ -72,9 +72,9 @@ ram_lawful disk = record {
   some_sectors = disk.kept.some;
   few_sectors = disk.kept.few;
   current = λ sector below. value_at-whole disk.calls.items (place_of disk.newest.items sector) sector;
-  nested = λ moment left within may. may;
+  nested = λ reading left within may. may;
   only_now = λ left may. may;
-  whole = λ moment left within may. may;
+  whole = λ reading left within may. may;
   faults = disk.counted;
   lies = omega arith;
 }

@@ -3,7 +3,7 @@
 ghost use Rattle.std.specs.Prelude.{ℕ, false, true, ◌∷◌, ◌++◌, ◌≡◌, ◌%◌, ◌*◌, ◌+◌, ◌/◌, ◌<◌, ◌≤◌, IfOk};
 ghost use Rattle.std.specs.Prelude.{IfSome, None, OnErr, OnOk, Some, [], drop, length};
 ghost use Rattle.std.specs.Prelude.{replicate, slice_get, take, unwrap_or};
-ghost use Rattle.sector_disk.specs.inside.Storage.{AreWithin, IsFilled, before_at, content_at, count_of};
+ghost use Rattle.sector_disk.specs.inside.Storage.{PlacesAreWithin, IsFilled, before_at, content_at, change_count};
 ghost use Rattle.sector_disk.specs.inside.Storage.{is_image_in, is_open, is_write_of, place_of};
 ghost use Rattle.sector_disk.specs.inside.Storage.{put_over, value_at, value_in};
 ghost use Rattle.bio.specs.Content.{gather, put, writes};
@@ -23,7 +23,7 @@ const PIECE_SECTORS: usize = 128;
 
 /// The values that a call puts in its sectors.
 #[derive(Debug, Drop)]
-pub enum Change {
+pub enum PastChange {
     /// The bytes of a write: whole sectors.
     Write(FilledBytes),
     /// The bytes of an image, in pieces: whole sectors.
@@ -32,33 +32,33 @@ pub enum Change {
     Discard(u64),
 }
 
-impl Change {
+impl PastChange {
     /// Returns the number of sectors that the change covers.
     pub fn sectors(&self) -> u64
-        ensures { result ≡ count_of self.now }
+        ensures { result ≡ change_count self.now }
     {
         match self {
-            Change::Write(bytes) => (bytes.len() / SECTOR) as u64,
-            Change::Image(image) => (image.len() / SECTOR) as u64,
-            Change::Discard(count) => *count,
+            PastChange::Write(bytes) => (bytes.len() / SECTOR) as u64,
+            PastChange::Image(image) => (image.len() / SECTOR) as u64,
+            PastChange::Discard(count) => *count,
         }
     }
 }
 
 /// A write or a discard in a disk's past. A disk stores all its calls, so a call is small.
 #[derive(Debug, Drop)]
-pub struct Call {
+pub struct PastCall {
     /// The first sector of the call. A disk has less than 2^32 sectors, so 32 bits suffice.
     pub first: u32,
     pub fua: bool,
     /// Whether a flush came between the previous call and this call.
     pub after_flush: bool,
-    pub change: Change,
+    pub change: PastChange,
     /// For each of the call's sectors, the index of the call whose value the sector had before.
     pub before: Runs,
 }
 
-const _: () = prove!(mem::size_of::<Call>() <= 64);
+const _: () = prove!(mem::size_of::<PastCall>() <= 64);
 
 // Reads the value that a write from `first` on put in the sector; zeroes if it put none.
 fn read_written(bytes: &FilledBytes, first: u64, sector: u64, buffer: &mut [u8])
@@ -88,20 +88,20 @@ fn read_image(image: &Image, first: u64, sector: u64, buffer: &mut [u8])
 
 // Reads the value that the call put in the sector; zeroes if it put none.
 #[tactic(auto, using(crate::specs::inside::Storage::change_values, crate::proofs::ImageBack::discarded))]
-fn read_call(call: &Call, sector: u64, buffer: &mut [u8])
+fn read_call(call: &PastCall, sector: u64, buffer: &mut [u8])
     requires { length buffer.old ≡ 512 }
     ensures { buffer.new ≡ value_in (Some call.now) sector }
 {
     match &call.change {
-        Change::Write(bytes) => read_written(bytes, u64::from(call.first), sector, buffer),
-        Change::Image(image) => read_image(image, u64::from(call.first), sector, buffer),
-        Change::Discard(_) => buffer.fill(0),
+        PastChange::Write(bytes) => read_written(bytes, u64::from(call.first), sector, buffer),
+        PastChange::Image(image) => read_image(image, u64::from(call.first), sector, buffer),
+        PastChange::Discard(_) => buffer.fill(0),
     }
 }
 
 // Reads the value that the call at index `place` put in the sector; zeroes if there is no such
 // value.
-fn read_place(calls: &[Call], place: usize, sector: u64, buffer: &mut [u8])
+fn read_place(calls: &[PastCall], place: usize, sector: u64, buffer: &mut [u8])
     requires { length buffer.old ≡ 512 }
     ensures { buffer.new ≡ value_at calls.now place sector }
 {
@@ -137,7 +137,7 @@ fn are_first(places: &[usize], first: usize, count: usize) -> bool
 // Returns the image that the first call is, if it begins at sector 0 and no later call put a value
 // in the `count` sectors from `first` on.
 fn image_below<'a>(
-    calls: &'a [Call],
+    calls: &'a [PastCall],
     places: &[usize],
     first: usize,
     count: usize,
@@ -152,14 +152,14 @@ fn image_below<'a>(
         return None;
     }
     match &call.change {
-        Change::Image(image) => Some(image),
-        Change::Write(_) | Change::Discard(_) => None,
+        PastChange::Image(image) => Some(image),
+        PastChange::Write(_) | PastChange::Discard(_) => None,
     }
 }
 
 // Reads whole sectors from `first` on, if `image_below` has them in one piece that stores its bytes
 // as they are. Returns whether this is so.
-fn read_run(calls: &[Call], places: &[usize], first: usize, buffer: &mut [u8]) -> bool
+fn read_run(calls: &[PastCall], places: &[usize], first: usize, buffer: &mut [u8]) -> bool
     requires whole { length buffer.old % 512 ≡ 0 }
     requires within { first + length buffer.old / 512 ≤ 1048576 }
     ensures { result ≡ true → buffer.new ≡ gather (content_at calls.now places.now) first
@@ -174,7 +174,7 @@ fn read_run(calls: &[Call], places: &[usize], first: usize, buffer: &mut [u8]) -
 /// Returns the bytes of `count` sectors from `first` on, if memory has them one after another. Each
 /// sector has the value of the call whose index `places` has for it.
 pub fn stored<'a>(
-    calls: &'a [Call],
+    calls: &'a [PastCall],
     places: &[usize],
     first: usize,
     count: usize,
@@ -187,7 +187,7 @@ pub fn stored<'a>(
 }
 
 // Does what `read_places` does. It is quick if the sectors are in one piece of an image.
-fn read_part(calls: &[Call], places: &[usize], first: usize, buffer: &mut [u8])
+fn read_part(calls: &[PastCall], places: &[usize], first: usize, buffer: &mut [u8])
     requires whole { length buffer.old % 512 ≡ 0 }
     requires within { first + length buffer.old / 512 ≤ 1048576 }
     ensures { buffer.new ≡ gather (content_at calls.now places.now) first
@@ -210,7 +210,7 @@ fn read_part(calls: &[Call], places: &[usize], first: usize, buffer: &mut [u8])
 
 /// Reads whole sectors from `first` on. Each sector gets the value of the call whose index `places`
 /// has for it.
-pub fn read_places(calls: &[Call], places: &[usize], first: usize, buffer: &mut [u8])
+pub fn read_places(calls: &[PastCall], places: &[usize], first: usize, buffer: &mut [u8])
     requires whole { length buffer.old % 512 ≡ 0 }
     requires within { first + length buffer.old / 512 ≤ 1048576 }
     ensures { buffer.new ≡ gather (content_at calls.now places.now) first
@@ -234,7 +234,12 @@ pub fn read_places(calls: &[Call], places: &[usize], first: usize, buffer: &mut 
 
 // Puts a part of 65,536 bytes from sector `first` on into the call's image. Returns whether the call
 // is an image from sector 0 on that has a piece there. If not, nothing is changed.
-fn replace_in(alloc: Global, call: &mut Call, first: usize, part: &[u8]) -> Result<bool, AllocError>
+fn replace_in(
+    alloc: Global,
+    call: &mut PastCall,
+    first: usize,
+    part: &[u8],
+) -> Result<bool, AllocError>
     requires part { length part.now ≡ 65536 }
     requires place { first % 128 ≡ 0 }
     ensures done { IfOk result (λ done. done ≡ true → (sector : ℕ) →
@@ -245,7 +250,7 @@ fn replace_in(alloc: Global, call: &mut Call, first: usize, part: &[u8]) -> Resu
     if call.first != 0 {
         return Ok(false);
     }
-    let Change::Image(image) = &mut call.change else {
+    let PastChange::Image(image) = &mut call.change else {
         return Ok(false);
     };
     if (image.len() / SECTOR).saturating_sub(first) < PIECE_SECTORS {
@@ -258,7 +263,7 @@ fn replace_in(alloc: Global, call: &mut Call, first: usize, part: &[u8]) -> Resu
 // Does what `put_piece` does to the calls in a slice.
 fn put_piece_in(
     alloc: Global,
-    calls: &mut [Call],
+    calls: &mut [PastCall],
     newest: &mut Vec<usize>,
     first: usize,
     part: &[u8],
@@ -272,7 +277,7 @@ fn put_piece_in(
     ensures err { OnErr result
         ((calls.new ≡ calls.old) × (newest.new.items ≡ newest.old.items)) }
     ensures table { length newest.new.items ≡ length newest.old.items }
-    ensures within { AreWithin calls.old newest.old.items → AreWithin calls.new newest.new.items }
+    ensures within { PlacesAreWithin calls.old newest.old.items → PlacesAreWithin calls.new newest.new.items }
 {
     if part.len() != PIECE_SECTORS * SECTOR || first % PIECE_SECTORS != 0 {
         return Ok(false);
@@ -291,7 +296,7 @@ fn put_piece_in(
 /// its pieces. Returns whether it is. If not, or if an allocation fails, nothing is changed.
 pub fn put_piece(
     alloc: Global,
-    calls: &mut Vec<Call>,
+    calls: &mut Vec<PastCall>,
     newest: &mut Vec<usize>,
     first: usize,
     part: &[u8],
@@ -305,13 +310,13 @@ pub fn put_piece(
     ensures err { OnErr result
         ((calls.new.items ≡ calls.old.items) × (newest.new.items ≡ newest.old.items)) }
     ensures table { length newest.new.items ≡ length newest.old.items }
-    ensures within { AreWithin calls.old.items newest.old.items → AreWithin calls.new.items newest.new.items }
+    ensures within { PlacesAreWithin calls.old.items newest.old.items → PlacesAreWithin calls.new.items newest.new.items }
 {
     put_piece_in(alloc, calls, newest, first, part)
 }
 
 /// Returns whether the first call is a write of `sectors` sectors from sector 0 on.
-pub fn begins_with_image(calls: &[Call], sectors: usize) -> bool
+pub fn begins_with_image(calls: &[PastCall], sectors: usize) -> bool
     requires { sectors ≤ 1048576 }
     ensures { result ≡ is_image_in (slice_get calls.now 0) sectors }
 {
@@ -321,20 +326,19 @@ pub fn begins_with_image(calls: &[Call], sectors: usize) -> bool
     }
 }
 
-// Returns whether a change is a write of `sectors` sectors.
-fn is_write_of(change: &Change, sectors: usize) -> bool
+fn is_write_of(change: &PastChange, sectors: usize) -> bool
     requires { sectors ≤ 1048576 }
     ensures { result ≡ is_write_of change.now sectors }
 {
     match change {
-        Change::Write(bytes) => bytes.len() == sectors * SECTOR,
-        Change::Image(_) | Change::Discard(_) => false,
+        PastChange::Write(bytes) => bytes.len() == sectors * SECTOR,
+        PastChange::Image(_) | PastChange::Discard(_) => false,
     }
 }
 
 // Puts the values of later calls into an image: for each sector whose index in `places` isn't 0.
 // `later` are the calls after the first.
-fn put_later(later: &[Call], places: &[usize], sectors: usize, image: &mut [u8])
+fn put_later(later: &[PastCall], places: &[usize], sectors: usize, image: &mut [u8])
     requires whole { length image.old ≡ 512 * sectors }
     requires few { sectors ≤ 1048576 }
     ensures { image.new ≡ gather (put_over later.now places.now image.old) 0 sectors }
@@ -354,7 +358,7 @@ fn put_later(later: &[Call], places: &[usize], sectors: usize, image: &mut [u8])
 }
 
 // Does what `put_later` does to an image in a vector.
-fn put_in(later: &[Call], places: &[usize], sectors: usize, image: &mut Vec<u8>)
+fn put_in(later: &[PastCall], places: &[usize], sectors: usize, image: &mut Vec<u8>)
     requires whole { length image.old.items ≡ 512 * sectors }
     requires few { sectors ≤ 1048576 }
     ensures { image.new.items ≡ gather (put_over later.now places.now image.old.items) 0 sectors }
@@ -367,7 +371,7 @@ fn put_in(later: &[Call], places: &[usize], sectors: usize, image: &mut Vec<u8>)
 /// memory is an error.
 pub fn take_image(
     alloc: Global,
-    calls: &mut [Call],
+    calls: &mut [PastCall],
     places: &[usize],
     sectors: usize,
 ) -> Result<Vec<u8>, AllocError>
@@ -377,7 +381,7 @@ pub fn take_image(
         ≡ gather (content_at calls.old places.now) 0 sectors) }
 {
     if let [first, later @ ..] = calls {
-        if let Change::Write(bytes) = &mut first.change {
+        if let PastChange::Write(bytes) = &mut first.change {
             let mut image = mem::replace(bytes, FilledBytes::empty(alloc)).into_vec()?;
             put_in(later, places, sectors, &mut image);
             return Ok(image);
@@ -410,9 +414,9 @@ fn fill_places(places: &mut Vec<usize>, first: usize, count: usize, place: usize
 /// Appends a call, and makes it the newest call of its sectors. If an allocation fails, nothing is
 /// changed.
 pub fn add_call(
-    calls: &mut Vec<Call>,
+    calls: &mut Vec<PastCall>,
     newest: &mut Vec<usize>,
-    call: Call,
+    call: PastCall,
     count: usize,
 ) -> Result<(), AllocError>
     requires { call.first + count ≤ length newest.old.items }
@@ -431,14 +435,14 @@ pub fn add_call(
 
 /// Returns whether the call at index `place` isn't durable: it has no FUA, and came after the last
 /// flush or crash.
-pub fn is_open(calls: &[Call], synced: usize, place: usize) -> bool
+pub fn is_open(calls: &[PastCall], synced: usize, place: usize) -> bool
     ensures { result ≡ is_open calls.now synced place }
 {
     synced <= place && calls.get(place).is_some_and(|call| !call.fua)
 }
 
 /// Returns the index of the call whose value the sector had before the call at `place`.
-pub fn before(calls: &[Call], place: usize, sector: usize) -> usize
+pub fn before(calls: &[PastCall], place: usize, sector: usize) -> usize
     ensures { result ≡ before_at calls.now place sector }
 {
     let Some(call) = calls.get(place) else {

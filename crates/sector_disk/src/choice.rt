@@ -3,10 +3,10 @@ ghost use Rattle.std.specs.Prelude.{◌≡◌, ◌-◌, ◌%◌, ◌<◌, ◌≤
 ghost use Rattle.sector_disk.specs.Candidates.{Cache};
 ghost use Rattle.sector_disk.specs.inside.Storage.{AreChosen, ArePlaced, is_chain, walk};
 
-use crate::call::{Call, before, is_open};
+use crate::call::{PastCall, before, is_open};
 
 // Returns the number of a sector's candidates: its calls from the newest back to a durable one.
-fn count_candidates(calls: &[Call], synced: usize, sector: usize, newest: usize) -> usize
+fn count_candidates(calls: &[PastCall], synced: usize, sector: usize, newest: usize) -> usize
     ensures some { 0 < result }
     ensures count { (count : ℕ) → count ≤ length calls.now →
         is_chain calls.now synced sector count newest ≡ true → result ≡ count }
@@ -22,7 +22,7 @@ fn count_candidates(calls: &[Call], synced: usize, sector: usize, newest: usize)
 }
 
 // Returns the index of the sector's call that is `steps` calls before its newest.
-fn walk_back(calls: &[Call], sector: usize, newest: usize, steps: usize) -> usize
+fn walk_back(calls: &[PastCall], sector: usize, newest: usize, steps: usize) -> usize
     ensures { result ≡ walk calls.now sector steps newest }
 {
     let mut place = newest;
@@ -41,7 +41,7 @@ fn pick_at(picks: &[u64], place: usize) -> u64
 
 /// Sets each sector's entry in `chosen` to the index of the call whose value the picks name.
 pub fn choose(
-    calls: &[Call],
+    calls: &[PastCall],
     synced: usize,
     newest: &[usize],
     picks: &[u64],

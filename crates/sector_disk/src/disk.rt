@@ -1,9 +1,9 @@
 //! A disk in memory that stores its past, so that contracts know exactly what a crash may leave.
 ghost use Rattle.std.proofs.Props.{props};
 ghost use Rattle.std.specs.Prelude.{◌≤◌, length, vec_capacity};
-ghost use Rattle.sector_disk.specs.inside.Storage.{IsKept};
+ghost use Rattle.sector_disk.specs.inside.Storage.{IsStorage};
 
-use crate::call::Call;
+use crate::call::PastCall;
 pub use ram::RamDisk;
 use std::alloc::Global;
 
@@ -20,12 +20,22 @@ mod ram;
 /// differ, each run of sectors with the same previous call takes 16 bytes more. From the first call
 /// on, the disk has a table of 8 bytes for each sector. It also has room for a second table, which
 /// the first crash fills.
+///
+/// For example (`a_crash_loses_a_write` of `device_tests`):
+/// ```
+/// let mut disk = SectorDisk::new(rt.alloc(), 8).expect(&rt, "memory");
+/// disk.write(Ms::new(0), 3, &[7; 512], false)
+///     .expect(&rt, "memory");
+/// disk.crash(&[]);
+/// let bytes = disk.into_bytes().expect(&rt, "memory");
+/// assert!(rt; bytes.iter().all(|byte| *byte == 0));
+/// ```
 #[derive(Debug, Drop)]
 pub struct SectorDisk {
     alloc: Global,
     sectors: u64,
     // The writes and discards since the disk was made. The first one is the disk's first content.
-    calls: Vec<Call>,
+    calls: Vec<PastCall>,
     // For each sector, the index of the call whose value it has. Empty before the second call: then
     // each sector has the value of the first call.
     newest: Vec<usize>,
@@ -40,5 +50,5 @@ pub struct SectorDisk {
     // Whether a flush came after the last call or crash.
     flushed: bool,
     ghost room: { length newest.items ≤ vec_capacity base },
-    ghost kept: { IsKept sectors calls.items newest.items base.items begun synced flushed } by { Prim.hlevel props },
+    ghost kept: { IsStorage sectors calls.items newest.items base.items begun synced flushed } by { Prim.hlevel props },
 }

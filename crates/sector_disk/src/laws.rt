@@ -5,7 +5,7 @@ ghost use Rattle.std.specs.Prelude.{false, length, replicate, true, ℕ};
 ghost use Rattle.blockdev.specs.View.{Discards, Flushes, Writes};
 ghost use Rattle.sector_disk.specs.Candidates.{left_by};
 ghost use Rattle.sector_disk.specs.declared.disk.SectorDisk.{SectorDisk};
-ghost use Rattle.sector_disk.specs.DiskView.{Does, cache_of, shown_of};
+ghost use Rattle.sector_disk.specs.DiskView.{DoesOnDisk, cache_of, shown_of};
 ghost use Rattle.bio.specs.Content.{Content, Patched, discards, sector_of, writes};
 
 /// A crash may leave the content that `picks` leave, whatever `picks` are.
@@ -28,10 +28,10 @@ pub fn each_crash_is_picked()
 pub fn unsynced_sectors_may_be_old()
     ensures write { (old new : SectorDisk) (first : ℕ) (bytes : List ℕ) (now end : ℕ)
         (left : Content) →
-        Does old (Writes first bytes false) now (Ok end) new →
+        DoesOnDisk old (Writes first bytes false) now (Ok end) new →
         (shown_of old).crash left → (shown_of new).crash left }
     ensures discard { (old new : SectorDisk) (first count now end : ℕ) (left : Content) →
-        Does old (Discards first count) now (Ok end) new →
+        DoesOnDisk old (Discards first count) now (Ok end) new →
         (shown_of old).crash left → (shown_of new).crash left }
 {}
 
@@ -41,13 +41,13 @@ pub fn unsynced_sectors_may_be_old()
 pub fn running_calls_tear()
     ensures write { (old new : SectorDisk) (first : ℕ) (bytes : List ℕ) (fua : Bool) (now end : ℕ)
         (before left : Content) →
-        Does old (Writes first bytes fua) now (Ok end) new →
+        DoesOnDisk old (Writes first bytes fua) now (Ok end) new →
         (shown_of old).crash before → Patched (writes first bytes) before left →
-        (shown_of new).since (shown_of old).moment left }
+        (shown_of new).since (shown_of old).clock left }
     ensures discard { (old new : SectorDisk) (first count now end : ℕ) (before left : Content) →
-        Does old (Discards first count) now (Ok end) new →
+        DoesOnDisk old (Discards first count) now (Ok end) new →
         (shown_of old).crash before → Patched (discards first count) before left →
-        (shown_of new).since (shown_of old).moment left }
+        (shown_of new).since (shown_of old).clock left }
 {}
 
 /// A write without FUA or a discard adds its value to the candidates of each sector that it covers.
@@ -55,19 +55,19 @@ pub fn running_calls_tear()
 /// candidate is its value.
 pub fn calls_make_candidates()
     ensures plain { (old new : SectorDisk) (first : ℕ) (bytes : List ℕ) (now end sector : ℕ) →
-        Does old (Writes first bytes false) now (Ok end) new →
+        DoesOnDisk old (Writes first bytes false) now (Ok end) new →
         first ≤ sector → sector < first + length bytes / 512 →
         (cache_of new).may sector
         ≡ (cache_of old).may sector ++ sector_of bytes (sector - first) ∷ [] }
     ensures fua { (old new : SectorDisk) (first : ℕ) (bytes : List ℕ) (now end sector : ℕ) →
-        Does old (Writes first bytes true) now (Ok end) new →
+        DoesOnDisk old (Writes first bytes true) now (Ok end) new →
         first ≤ sector → sector < first + length bytes / 512 →
         (cache_of new).may sector ≡ sector_of bytes (sector - first) ∷ [] }
     ensures discard { (old new : SectorDisk) (first count now end sector : ℕ) →
-        Does old (Discards first count) now (Ok end) new →
+        DoesOnDisk old (Discards first count) now (Ok end) new →
         first ≤ sector → sector < first + count →
         (cache_of new).may sector ≡ (cache_of old).may sector ++ replicate 512 0 ∷ [] }
     ensures flush { (old new : SectorDisk) (now end sector : ℕ) →
-        Does old Flushes now (Ok end) new →
+        DoesOnDisk old Flushes now (Ok end) new →
         (cache_of new).may sector ≡ (cache_of old).now sector ∷ [] }
 {}

@@ -8,7 +8,7 @@ use std::marker::Model;
 
 // The ways to store a piece.
 #[derive(Debug, Drop)]
-enum Held {
+enum StoredPiece {
     Filled(FilledBytes),
     Packed(PackedSectors),
 }
@@ -17,7 +17,7 @@ enum Held {
 /// if that at least halves the memory.
 #[derive(Debug, Drop)]
 pub struct Piece {
-    held: Held,
+    held: StoredPiece,
 }
 
 impl Model for Piece {
@@ -43,8 +43,8 @@ impl Piece {
         let fill = bytes.last().copied().unwrap_or(0);
         let end = count_before(bytes, fill);
         let held = match packed_size(bytes, end / 2) {
-            Some(size) => Held::Packed(PackedSectors::from_slice(alloc, bytes, size)?),
-            None => Held::Filled(FilledBytes::from_filled(alloc, bytes, end, fill)?),
+            Some(size) => StoredPiece::Packed(PackedSectors::from_slice(alloc, bytes, size)?),
+            None => StoredPiece::Filled(FilledBytes::from_filled(alloc, bytes, end, fill)?),
         };
         Ok(Piece { held })
     }
@@ -56,7 +56,8 @@ impl Piece {
         ensures read { result ≡ true → buffer.new ≡ take (length buffer.old) (drop from self.now) }
     {
         match &self.held {
-            Held::Filled(bytes) if from <= bytes.len() && buffer.len() <= bytes.len() - from => {
+            StoredPiece::Filled(bytes)
+                if from <= bytes.len() && buffer.len() <= bytes.len() - from => {
                 bytes.read(from, buffer);
                 true
             }
@@ -70,8 +71,8 @@ impl Piece {
         ensures part { IfSome result (λ part. part.now ≡ take count (drop from self.now)) }
     {
         match &self.held {
-            Held::Filled(bytes) => bytes.stored(from, count),
-            Held::Packed(_) => None,
+            StoredPiece::Filled(bytes) => bytes.stored(from, count),
+            StoredPiece::Packed(_) => None,
         }
     }
 
@@ -83,8 +84,8 @@ impl Piece {
         ensures { buffer.new ≡ take 512 (drop from self.now) }
     {
         match &self.held {
-            Held::Filled(bytes) => bytes.read(from, buffer),
-            Held::Packed(sectors) => sectors.read_sector(from, buffer),
+            StoredPiece::Filled(bytes) => bytes.read(from, buffer),
+            StoredPiece::Packed(sectors) => sectors.read_sector(from, buffer),
         }
     }
 
@@ -99,8 +100,8 @@ impl Piece {
         ensures { OnOk result (to.new.items ≡ to.old.items ++ self.now) }
     {
         match &self.held {
-            Held::Filled(bytes) => bytes.append_to(to),
-            Held::Packed(sectors) => sectors.append_to(to),
+            StoredPiece::Filled(bytes) => bytes.append_to(to),
+            StoredPiece::Packed(sectors) => sectors.append_to(to),
         }
     }
 }

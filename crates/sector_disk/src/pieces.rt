@@ -1,7 +1,7 @@
 //! A long list of bytes, in pieces. A repeated byte at the end of a piece takes no memory.
 ghost use Rattle.std.specs.Prelude.{◌≡◌, ◌<◌, ◌≤◌, ◌+◌, ◌++◌, ◌%◌, IfOk, IfSome, OnErr, OnOk, [], drop, length};
 ghost use Rattle.std.specs.Prelude.{take, true};
-ghost use Rattle.sector_disk.specs.inside.Pieces.{AreWhole, joined, with_piece};
+ghost use Rattle.sector_disk.specs.inside.Pieces.{PiecesAreWhole, pieces_bytes, with_piece};
 
 use crate::piece::Piece;
 use std::alloc::{AllocError, Global};
@@ -12,11 +12,11 @@ const PIECE: usize = 65_536;
 
 // Reads the sector that begins at byte `from` of the joined pieces.
 fn read_piece(pieces: &[Piece], from: usize, buffer: &mut [u8])
-    requires whole { AreWhole pieces.now }
+    requires whole { PiecesAreWhole pieces.now }
     requires sector { length buffer.old ≡ 512 }
     requires place { from % 512 ≡ 0 }
-    requires within { from + 512 ≤ length (joined pieces.now) }
-    ensures { buffer.new ≡ take 512 (drop from (joined pieces.now)) }
+    requires within { from + 512 ≤ length (pieces_bytes pieces.now) }
+    ensures { buffer.new ≡ take 512 (drop from (pieces_bytes pieces.now)) }
 {
     if let Some(piece) = pieces.get(from / PIECE) {
         piece.read_sector(from % PIECE, buffer);
@@ -37,9 +37,9 @@ impl Model for Image {
 
     ghost Value = { List ℕ };
 
-    ghost use Rattle.sector_disk.specs.inside.Pieces.{IsHeldIn, joined};
+    ghost use Rattle.sector_disk.specs.inside.Pieces.{IsHeldIn, pieces_bytes};
 
-    ghost view = { λ i. joined i.pieces.items };
+    ghost view = { λ i. pieces_bytes i.pieces.items };
 
     ghost invariant = { λ i. IsHeldIn i.pieces.items i.count };
 }

@@ -8,7 +8,7 @@ use std::marker::Model;
 
 // A number, and how often it repeats.
 #[derive(Clone, Copy, Debug, Drop)]
-struct Run {
+struct NumberRun {
     count: usize,
     value: usize,
 }
@@ -16,16 +16,16 @@ struct Run {
 /// A list of numbers. Takes memory only if it has more than one run.
 #[derive(Debug, Drop)]
 pub struct Runs {
-    held: Held,
+    held: StoredNumbers,
 }
 
 // The ways to store the numbers, in two words.
 #[derive(Debug, Drop)]
-enum Held {
+enum StoredNumbers {
     // One run: a number, and how often it repeats.
     One { count: u32, value: usize },
     // The runs of the list, in order.
-    More(Box<Vec<Run>>),
+    More(Box<Vec<NumberRun>>),
 }
 
 impl Model for Runs {
@@ -39,7 +39,7 @@ impl Model for Runs {
 }
 
 // Returns the first run of a list.
-fn first_run(values: &[usize]) -> Run
+fn first_run(values: &[usize]) -> NumberRun
     ensures within { result.count ≤ length values.now }
     ensures run { values.now ≡ replicate result.count result.value ++ drop result.count values.now }
     ensures some { 0 < length values.now → 0 < result.count }
@@ -49,11 +49,11 @@ fn first_run(values: &[usize]) -> Run
     while count < values.len() && values[count] == value {
         count += 1;
     }
-    Run { count, value }
+    NumberRun { count, value }
 }
 
 // Returns the number at an index of the list that the runs store.
-fn value_at(runs: &[Run], index: usize) -> Option<usize>
+fn value_at(runs: &[NumberRun], index: usize) -> Option<usize>
     ensures { result ≡ slice_get (unrolled runs.now) index }
 {
     let mut rest = runs;
@@ -69,7 +69,7 @@ fn value_at(runs: &[Run], index: usize) -> Option<usize>
 }
 
 // Returns the runs of a list.
-fn runs_of(alloc: Global, values: &[usize]) -> Result<Vec<Run>, AllocError>
+fn runs_of(alloc: Global, values: &[usize]) -> Result<Vec<NumberRun>, AllocError>
     ensures { IfOk result (λ runs. unrolled runs.items ≡ values.now) }
 {
     let mut runs = Vec::new(alloc);
@@ -95,7 +95,7 @@ impl Runs {
         ensures { result ≡ replicate count value }
     {
         Runs {
-            held: Held::One { count, value },
+            held: StoredNumbers::One { count, value },
         }
     }
 
@@ -115,7 +115,7 @@ impl Runs {
         }
         let runs = runs_of(alloc, values)?;
         Ok(Runs {
-            held: Held::More(Box::new(alloc, runs)?),
+            held: StoredNumbers::More(Box::new(alloc, runs)?),
         })
     }
 
@@ -124,8 +124,8 @@ impl Runs {
         ensures { result ≡ slice_get self.now index }
     {
         match &self.held {
-            Held::One { count, value } => (index < *count as usize).then_some(*value),
-            Held::More(runs) => value_at(runs, index),
+            StoredNumbers::One { count, value } => (index < *count as usize).then_some(*value),
+            StoredNumbers::More(runs) => value_at(runs, index),
         }
     }
 }

@@ -1,5 +1,5 @@
 -- The lemmas of `shared`. The proof of each function is in the folder of its source file.
 pub mod ClosedLog
 pub mod PlainCrash
-pub mod PostedStatus
+pub mod PublishedStatus
 mod Examples

@@ -10,14 +10,14 @@ use Rattle.bio.specs.Events.{all_aligned, is_lawful_sized, is_well_formed}
 use Rattle.bio.specs.RequestLaws.{lawful_parts}
 use Rattle.log_format.specs.Entries.{is_sector_size}
 use Rattle.log_format.specs.LogOf as logs
-use Rattle.log_store.specs.Store.{IsLogPrefix, count_of}
+use Rattle.log_store.specs.Store.{IsLogPrefix, super_count}
 use Rattle.pending.specs.CompletionList.{Item as Listed, completion_list, dm_log_writes, entries_of}
 use Rattle.pending.specs.CompletionList.{ids_of}
 use Rattle.pending.specs.CoreState.{CoreState, items_of}
-use Rattle.pending.specs.Plain.{Belongs, CouldHold, GoesOn, HasLog, IsCompletionList}
-use Rattle.pending.specs.Plain.{LeavesPlainLog, Replays}
-use Rattle.lock_state.specs.declared.note.Item.{Item}
-use Rattle.lock_state.specs.Comparison.{IsTakenPrefix, listed}
+use Rattle.pending.specs.Plain.{Belongs, CouldHold, GoesOn, HasPlainLog, IsCompletionList}
+use Rattle.pending.specs.Plain.{LeavesPlainLog, ReplaysTo}
+use Rattle.lock_state.specs.declared.note.LogItem.{LogItem}
+use Rattle.lock_state.specs.Comparison.{IsTakenPrefix, listed_item}
 use Rattle.lock_state.specs.PlacedItems.{entries_in}
 use Rattle.shared.proofs.ClosedLog.{entries_long, first_entries}
 
@@ -33,7 +33,7 @@ LogsPlain =
     → is_well_formed events ≡ true → IsCompletionList events ids
     → logs.HasLog disk content size
     (entries_of (take count (completion_list (dm_log_writes size) events)))
-    → HasLog size events (take count ids) disk content
+    → HasPlainLog size events (take count ids) disk content
 
 abbrev pub BeginningsHeld : Type 0
 BeginningsHeld =
@@ -41,11 +41,11 @@ BeginningsHeld =
     → IsTrue (is_sector_size size) → IsTrue (all_aligned size events)
     → is_well_formed events ≡ true → IsCompletionList events ids → moment ≤ length events
     → GoesOn events moment → Belongs events ids moment count
-    → Replays events (take count ids) first after → CouldHold (take moment events) first after
+    → ReplaysTo events (take count ids) first after → CouldHold (take moment events) first after
 
-long_within : (placed : List Item) (items : List Listed)
-    → ((k : ℕ) (item : Item) → slice_get placed k ≡ Some item
-    → slice_get items k ≡ Some (listed item)) → length placed ≤ length items
+long_within : (placed : List LogItem) (items : List Listed)
+    → ((k : ℕ) (item : LogItem) → slice_get placed k ≡ Some item
+    → slice_get items k ≡ Some (listed_item item)) → length placed ≤ length items
 long_within [] items each = omega arith
 long_within (x ∷ xs) [] each = absurd (let there = each 0 x refl in cc)
 long_within (x ∷ xs) (y ∷ ys) each =
@@ -53,7 +53,7 @@ long_within (x ∷ xs) (y ∷ ys) each =
 
 pub leaves_plain : ListsPlain → LogsPlain → BeginningsHeld → (sectors size few : ℕ)
     (core : CoreState)
-    (placed : List Item) (left : Content)
+    (placed : List LogItem) (left : Content)
     → IsTrue (is_lawful_sized core.sector_bytes sectors core.events) → IsTakenPrefix core placed
     → IsLogPrefix size core.sector_bytes (entries_in placed) few left
     → LeavesPlainLog core.sector_bytes size few core.events left
@@ -68,20 +68,20 @@ leaves_plain lists stand held sectors size few core placed left lawful begins cu
     let long = long_within placed items begins.each in
     let most = cut.most in
     let same_long = entries_long placed in
-    let within : count_of left ≤ length placed = omega (arith, most, same_long) in
-    let same : take (count_of left) (entries_in placed) ≡ entries_of (take (count_of left) items) =
-    sym (first_entries placed items begins.each (count_of left) within)
-    ∙ take-map (λ (i : Listed). i.1) (count_of left) items in
+    let within : super_count left ≤ length placed = omega (arith, most, same_long) in
+    let same : take (super_count left) (entries_in placed) ≡ entries_of (take (super_count left) items) =
+    sym (first_entries placed items begins.each (super_count left) within)
+    ∙ take-map (λ (i : Listed). i.1) (super_count left) items in
     record {
       sector_size = cut.log.sector_size;
       ids = ids;
       list = list;
-      count = count_of left;
+      count = super_count left;
       least = cut.least;
       most =
           omega (arith, within, long, length-map items (λ (i : Listed). i.0));
       log =
-          stand bytes events ids size left (count_of left) well_formed list
+          stand bytes events ids size left (super_count left) well_formed list
           (rw same at cut.log);
       possible = λ n moment first after within until on belongs replays.
           held bytes events ids first after moment n cut.log.sector_size parts.1 well_formed list
@@ -91,12 +91,12 @@ leaves_plain lists stand held sectors size few core placed left lawful begins cu
 -- the law that is passed to `plain_at`
 abbrev pub PlacedPlain : Type 0
 PlacedPlain =
-    (sectors size few : ℕ) (core : CoreState) (placed : List Item) (left : Content)
+    (sectors size few : ℕ) (core : CoreState) (placed : List LogItem) (left : Content)
     → IsTrue (is_lawful_sized core.sector_bytes sectors core.events) → IsTakenPrefix core placed
     → IsLogPrefix size core.sector_bytes (entries_in placed) few left
     → LeavesPlainLog core.sector_bytes size few core.events left
 
-pub plain_at : PlacedPlain → (bytes sectors size few : ℕ) (core : CoreState) (placed : List Item)
+pub plain_at : PlacedPlain → (bytes sectors size few : ℕ) (core : CoreState) (placed : List LogItem)
     (left : Content) → core.sector_bytes ≡ bytes
     → IsTrue (is_lawful_sized bytes sectors core.events) → IsTakenPrefix core placed
     → IsLogPrefix size bytes (entries_in placed) few left

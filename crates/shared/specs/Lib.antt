@@ -1,5 +1,5 @@
 -- The definitions that the contracts of `shared` are written in.
-pub mod Answers
-pub mod Posts
+pub mod SeatCalls
+pub mod Published
 pub mod Close
 pub mod PlainCrash

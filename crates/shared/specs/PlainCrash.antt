@@ -21,7 +21,7 @@ pub record CrashesLeavePlainLogs (begins : ℕ → Type 0) (bytes : ℕ) (device
     (events : List CoreEvent) : Type 0 where
   pub begun : ℕ
   pub one : begins begun
-  pub past : begun ≤ device.moment
+  pub past : begun ≤ device.clock
   pub leaves : (left : Content) → device.since begun left
       → LeavesPlainLog bytes device.size 0 events left
 
@@ -30,6 +30,6 @@ pub record CrashesLeavePlainLogs (begins : ℕ → Type 0) (bytes : ℕ) (device
 -- receipt's entry.
 pub record KeepsPlainReceipt (bytes : ℕ) (device : View) (events : List CoreEvent)
     (receipt : Receipt) : Type 0 where
-  pub past : receipt.reading ≤ device.moment
+  pub past : receipt.reading ≤ device.clock
   pub leaves : (left : Content) → device.since receipt.reading left
       → LeavesPlainLog bytes device.size (receipt.number + 1) events left

@@ -50,7 +50,7 @@ pub enum MarkRefusal {
 
 impl From<MarkRefusal> for Refusal {
     ghost use Rattle.std.specs.Prelude.{◌≡◌};
-    ghost use Rattle.shared.specs.Answers.{refusal_of_mark};
+    ghost use Rattle.shared.specs.SeatCalls.{refusal_of_mark};
 
     ghost from_gives = { λ error refusal. refusal ≡ refusal_of_mark error };
 

@@ -10,25 +10,25 @@ ghost use Rattle.lock_state.specs.Calls.{Holds};
 ghost use Rattle.lock_state.specs.Comparison.{LegalHistory, IsTakenPrefix, Each, Receipt as Naming};
 ghost use Rattle.lock_state.specs.Comparison.{HasNoRoom, LeftUnplaced, StopsWithLog};
 ghost use Rattle.lock_state.specs.FirstStop.{HasStopCause};
-ghost use Rattle.lock_state.specs.History.{KeepsCause, Part, first_cause, named, recorded_count};
-ghost use Rattle.lock_state.specs.PlacedItems.{HasCause, LeavesPrefix, LeavesSince, KeepsGround};
+ghost use Rattle.lock_state.specs.History.{KeepsCause, Part, first_cause, seat_count, recorded_count};
+ghost use Rattle.lock_state.specs.PlacedItems.{HasEndCause, LeavesPrefix, LeavesSince, KeepsGround};
 ghost use Rattle.lock_state.specs.PlacedItems.{Stay, entries_in};
 ghost use Rattle.lock_state.specs.Receipts.{KeepsReceipt};
 ghost use Rattle.shared.specs.Close.{Agrees, Differs, IfBusy, IfForeign, IsReceipt, LeavesLog};
 ghost use Rattle.shared.specs.PlainCrash.{CrashesLeavePlainLogs, KeepsPlainReceipt};
-ghost use Rattle.shared.specs.Posts.{ArePosted, IsCurrent, IsLatest, StatusHasCause, end_before};
+ghost use Rattle.shared.specs.Published.{ArePublished, IsCurrent, IsLatest, StatusHasCause, end_before};
 
 use crate::desk::Desk;
 use crate::log_desk::LogDesk;
 use crate::plain::placed_logs_are_plain;
-use crate::posts::Posts;
+use crate::published::PublishedBoard;
 use crate::shared::{Shared, WriterSeat};
 use bio::{End, Status};
 use blockdev::BlockDev;
 use board::Names;
 use crossbeam_utils::CachePadded;
 use lock_state::{
-    DataState, Done, Item, LogState, QueueState, Receipt, Run, Seat, Seen, are_named, drain,
+    CallsSeen, DataState, Done, LogItem, LogState, QueueState, Receipt, Run, Seat, are_named, drain,
 };
 use pending::{Core, Hazard};
 use std::sync::Mutex;
@@ -55,7 +55,7 @@ pub struct Closed<D: Drop, L: Drop> {
     /// recorded.
     pub done: Vec<Done>,
     /// The items that were placed in the log, in order.
-    pub placed: Vec<Item>,
+    pub placed: Vec<LogItem>,
     /// How many of the placed items are settled.
     pub settled: u64,
     /// How many items were taken in order to be placed.
@@ -66,11 +66,12 @@ pub struct Closed<D: Drop, L: Drop> {
     pub store_end: Option<End>,
 }
 
-/// What a close that is Ok returns: the parts of the recorder, and what was posted about its log.
+/// What a close that is Ok returns: the parts of the recorder, and what was published about its
+/// log.
 #[derive(Drop)]
 pub struct Ending<D: Drop, L: Drop, R: Run + Names> {
     pub closed: Closed<D, L>,
-    pub posts: Posts<R>,
+    pub published: PublishedBoard<R>,
     /// Why the waiting threads were released, if they were.
     pub released: Option<End>,
     /// How many items the writer had placed. The close placed the others.
@@ -90,11 +91,11 @@ pub struct Open<D: BlockDev + Drop, L: BlockDev + Drop, R: Run + Names> {
 
 /// What a close returns if something that it got, or that the locks guarded, doesn't agree with the
 /// history. It has the parts of the recorder, without any further writes. It also has what was
-/// posted about the log, and everything that the close got.
+/// published about the log, and everything that the close got.
 #[derive(Drop)]
 pub struct Mismatch<D: Drop, L: Drop, R: Run + Names> {
     pub closed: Closed<D, L>,
-    pub posts: Posts<R>,
+    pub published: PublishedBoard<R>,
     /// Why the waiting threads were released, if they were.
     pub released: Option<End>,
     pub seats: Vec<Seat<R>>,
@@ -135,7 +136,7 @@ impl<D: BlockDev + Drop, L: BlockDev + Drop, R: Run + Names> Shared<D, L, R> {
         ensures closed { IfOk result (λ c. has_no_close c.closed.core.state.events ≡ false) }
         ensures counts { IfOk result
             (λ c. length seats.items ≡ R.parts → 0 < R.parts
-            → named c.closed.by.items ≡ recorded_count seats.items) }
+            → seat_count c.closed.by.items ≡ recorded_count seats.items) }
         ensures receipts { IfOk result
             (λ c. Each (IsReceipt c.closed.core.state c.closed.settled) receipts.items) }
         ensures crash { IfOk result
@@ -167,10 +168,10 @@ impl<D: BlockDev + Drop, L: BlockDev + Drop, R: Run + Names> Shared<D, L, R> {
         ensures device_size { IfOk result (λ c. (D.shown c.closed.device).size ≡ R.sectors) }
         ensures hazard { IfOk result (λ c. c.closed.hazard ≡ None) }
         ensures taken { IfOk result (λ c. c.closed.taken ≡ c.closed.core.state.taken) }
-        ensures posted { IfOk result (λ c. ArePosted R.sector_bytes c.closed.placed.items c.posts) }
+        ensures published { IfOk result (λ c. ArePublished R.sector_bytes c.closed.placed.items c.published) }
         ensures current { IfOk result (λ c. IsCurrent R.sector_bytes
             c.closed.placed.items c.written (end_before c.found c.closed.store_end) c.released
-            receipts.items c.posts) }
+            receipts.items c.published) }
         ensures ended { IfOk result (λ c. (cause : Cause) → c.found ≡ Some cause
             → (c.closed.end ≡ Some cause) × (c.written ≡ length c.closed.placed.items)) }
         ensures drained { IfOk result (λ c. c.found ≡ None
@@ -181,9 +182,9 @@ impl<D: BlockDev + Drop, L: BlockDev + Drop, R: Run + Names> Shared<D, L, R> {
             → c.closed.stop ≡ Some cause) }
         ensures stop_cause { IfOk result (λ c. HasStopCause c.closed.stop c.closed.store_end) }
         ensures causes { IfOk result (λ c.
-            HasCause L.does R.log (L.shown c.closed.log).faults c.closed.store_end) }
+            HasEndCause L.does R.log (L.shown c.closed.log).faults c.closed.store_end) }
         ensures ends { IfOk result
-            (λ c. Each (StatusHasCause c.closed.store_end c.released) c.posts) }
+            (λ c. Each (StatusHasCause c.closed.store_end c.released) c.published) }
         ensures foreign { IfErr result
             (λ e. IfForeign e (λ f. Differs
             (record { core = f.closed.core.state; by = f.closed.by.items; stop = f.closed.stop })
@@ -221,23 +222,23 @@ impl<D: BlockDev + Drop, L: BlockDev + Drop, R: Run + Names> Shared<D, L, R> {
               end = f.closed.store_end;
               released = f.released;
               room = 0;
-            }) f.posts)) }
+            }) f.published)) }
         ensures foreign_released { IfErr result (λ e. IfForeign e (λ f. (cause : Cause)
             → f.released ≡ Some cause → f.closed.stop ≡ Some cause)) }
         ensures foreign_stop_cause { IfErr result
             (λ e. IfForeign e (λ f. HasStopCause f.closed.stop f.closed.store_end)) }
         ensures foreign_causes { IfErr result (λ e. IfForeign e (λ f.
-            HasCause L.does R.log (L.shown f.closed.log).faults f.closed.store_end)) }
+            HasEndCause L.does R.log (L.shown f.closed.log).faults f.closed.store_end)) }
         ensures foreign_hazard { IfErr result (λ e. IfForeign e (λ f. f.closed.hazard ≡ None)) }
         ensures foreign_taken { IfErr result (λ e. IfForeign e (λ f.
             f.closed.taken ≡ f.closed.core.state.taken)) }
-        ensures foreign_posted { IfErr result
-            (λ e. IfForeign e (λ f. ArePosted R.sector_bytes f.closed.placed.items f.posts)) }
+        ensures foreign_published { IfErr result
+            (λ e. IfForeign e (λ f. ArePublished R.sector_bytes f.closed.placed.items f.published)) }
         ensures foreign_ends { IfErr result
-            (λ e. IfForeign e (λ f. Each (StatusHasCause f.closed.store_end f.released) f.posts)) }
+            (λ e. IfForeign e (λ f. Each (StatusHasCause f.closed.store_end f.released) f.published)) }
         ensures foreign_counts { IfErr result (λ e. IfForeign e (λ f.
             length seats.items ≡ R.parts → 0 < R.parts
-            → named f.closed.by.items ≡ recorded_count seats.items)) }
+            → seat_count f.closed.by.items ≡ recorded_count seats.items)) }
         ensures foreign_back { IfErr result (λ e. IfForeign e (λ f.
             (f.seats.items ≡ seats.items) × (f.writer ≡ writer)
             × (f.receipts.items ≡ receipts.items))) }
@@ -247,10 +248,10 @@ impl<D: BlockDev + Drop, L: BlockDev + Drop, R: Run + Names> Shared<D, L, R> {
     {
         // For the prover: a crash leaves a log whose prefixes replay to what could be held.
         placed_logs_are_plain();
-        let Held {
+        let GuardedValues {
             desk,
             mut log,
-            posts,
+            published,
             device,
         } = match self.leave_locks() {
             Ok(held) => held,
@@ -287,7 +288,7 @@ impl<D: BlockDev + Drop, L: BlockDev + Drop, R: Run + Names> Shared<D, L, R> {
             let closed = finish(queue, log, device, &mut receipts);
             return Ok(Ending {
                 closed,
-                posts,
+                published,
                 released,
                 written,
                 found,
@@ -295,7 +296,7 @@ impl<D: BlockDev + Drop, L: BlockDev + Drop, R: Run + Names> Shared<D, L, R> {
         }
         Err(Unclosed::Foreign(Mismatch {
             closed: take_apart(queue, log, device, &mut receipts),
-            posts,
+            published,
             released,
             seats,
             writer,
@@ -305,11 +306,11 @@ impl<D: BlockDev + Drop, L: BlockDev + Drop, R: Run + Names> Shared<D, L, R> {
 
     // Returns what the locks guarded, if recording was closed and the notes are there. Otherwise
     // returns the recorder.
-    fn leave_locks(self) -> Result<Held<D, L, R>, Shared<D, L, R>>
-        ensures posted { IfOk result (λ held. ArePosted R.sector_bytes held.log.placed held.posts) }
-        ensures latest { IfOk result (λ held. IsLatest R.sector_bytes held.log held.posts) }
+    fn leave_locks(self) -> Result<GuardedValues<D, L, R>, Shared<D, L, R>>
+        ensures published { IfOk result (λ held. ArePublished R.sector_bytes held.log.placed held.published) }
+        ensures latest { IfOk result (λ held. IsLatest R.sector_bytes held.log held.published) }
         ensures ends { IfOk result
-            (λ held. Each (StatusHasCause held.log.end held.log.released) held.posts) }
+            (λ held. Each (StatusHasCause held.log.end held.log.released) held.published) }
         ensures closed { IfOk result (λ held. (has_no_close held.desk.queue.core.events ≡ false)
             × (length held.desk.queue.core.events ≤ length held.desk.notes.items)) }
     {
@@ -328,12 +329,12 @@ impl<D: BlockDev + Drop, L: BlockDev + Drop, R: Run + Names> Shared<D, L, R> {
         let log = log.into_inner().into_inner();
         let device = device.into_inner().into_inner();
         if desk.is_ready() {
-            let LogDesk { log, posts } = log;
-            let posts = Posts::new(board, posts);
-            return Ok(Held {
+            let LogDesk { log, published } = log;
+            let published = PublishedBoard::new(board, published);
+            return Ok(GuardedValues {
                 desk,
                 log,
-                posts,
+                published,
                 device,
             });
         }
@@ -352,10 +353,10 @@ impl<D: BlockDev + Drop, L: BlockDev + Drop, R: Run + Names> Shared<D, L, R> {
 }
 
 // What the locks guarded, and the board.
-struct Held<D: BlockDev + Drop, L: BlockDev + Drop, R: Run + Names> {
+struct GuardedValues<D: BlockDev + Drop, L: BlockDev + Drop, R: Run + Names> {
     desk: Desk<R>,
     log: LogState<L, R>,
-    posts: Posts<R>,
+    published: PublishedBoard<R>,
     device: DataState<D, R>,
 }
 
@@ -365,7 +366,7 @@ fn agree<D: BlockDev + Drop, L: BlockDev + Drop, R: Run>(
     queue: &QueueState<R>,
     log: &LogState<L, R>,
     device: &DataState<D, R>,
-    notes: &mut [Seen],
+    notes: &mut [CallsSeen],
     seats: &[Seat<R>],
     receipts: &[Receipt<R>],
 ) -> bool
@@ -420,7 +421,7 @@ fn finish<D: BlockDev + Drop, L: BlockDev + Drop, R: Run>(
         → HasStopCause result.stop result.store_end }
     ensures full { queue.stop ≡ None → log.end ≡ None → result.store_end ≡ Some Full
         → HasNoRoom R.sector_bytes R.log.size result.core.state result.placed.items }
-    ensures causes { HasCause L.does R.log (L.shown result.log).faults result.store_end }
+    ensures causes { HasEndCause L.does R.log (L.shown result.log).faults result.store_end }
     ensures same { (result.core.state.events ≡ queue.core.events) × (result.by.items ≡ queue.by) }
     ensures crash { (L.shown result.log).lies ≡ 0 → (left : Content)
         → (L.shown result.log).crash left →
@@ -467,7 +468,7 @@ fn take_apart<D: BlockDev + Drop, L: BlockDev + Drop, R: Run>(
         ≡ queue }
     ensures placed { (result.placed.items ≡ log.placed) × (result.settled ≡ log.settled) }
     ensures store_end { result.store_end ≡ log.end }
-    ensures causes { HasCause L.does R.log (L.shown result.log).faults result.store_end }
+    ensures causes { HasEndCause L.does R.log (L.shown result.log).faults result.store_end }
     ensures calls { result.done.items ≡ device.calls }
     ensures legal { LegalHistory R.sector_bytes R.sectors result.core.state.events result.by.items
         [] }

@@ -11,9 +11,9 @@
 pub use answer::{Answer, MarkAnswer, MarkRefusal};
 pub use board::{Names, StatusSeat};
 pub use closing::{Closed, Ending, Mismatch, Open, Unclosed};
-pub use lock_state::{Done, Item, Receipt, Run, Seat};
+pub use lock_state::{Done, LogItem, Receipt, Run, Seat};
 pub use plain::placed_logs_are_plain;
-pub use posts::Posts;
+pub use published::PublishedBoard;
 pub use shared::{Shared, Started, WriterSeat};
 pub use unnamed::Unnamed;
 
@@ -24,7 +24,7 @@ mod desk;
 mod log_desk;
 mod marks;
 mod plain;
-mod posts;
+mod published;
 mod shared;
 mod unnamed;
 mod waiters;

@@ -5,7 +5,7 @@ ghost use Rattle.bio.specs.Content.{Content};
 ghost use Rattle.bio.specs.Events.{is_lawful_sized};
 ghost use Rattle.lock_state.specs.Comparison.{IsTakenPrefix};
 ghost use Rattle.lock_state.specs.PlacedItems.{entries_in};
-ghost use Rattle.lock_state.specs.declared.note.Item.{Item as Placing};
+ghost use Rattle.lock_state.specs.declared.note.LogItem.{LogItem as Placing};
 ghost use Rattle.log_store.specs.Store.{IsLogPrefix};
 ghost use Rattle.pending.specs.CoreState.{CoreState};
 ghost use Rattle.pending.specs.Plain.{LeavesPlainLog};

@@ -22,8 +22,8 @@ const MOST_SKIPS: u64 = 1023;
 // only one that waits.
 const FEW_SEATS: u64 = 2;
 
-// There are this many rows of receipts. No recorder has more seats.
-const ROWS: usize = 64;
+// There are this many shards of receipts. No recorder has more seats.
+const SHARDS: usize = 64;
 
 // Whether a wait first looks at a number that rises when the thread may go on. To look at it for a
 // short time costs less CPU time than to sleep and be woken; to look in vain costs more. So after a
@@ -97,7 +97,7 @@ impl Looks {
 // How the writer waits for work: an item to take, or the end of logging or of recording. Whoever
 // changes this under the queue's lock wakes the writer afterwards.
 #[derive(Drop)]
-pub(crate) struct Work {
+pub(crate) struct WriterWait {
     // How often the writer was woken.
     wakes: CachePadded<AtomicU64>,
     // How often it had been woken when it last held the queue's lock. Only the writer uses this.
@@ -106,9 +106,9 @@ pub(crate) struct Work {
     condition: Condvar,
 }
 
-impl Work {
-    pub(crate) fn new() -> Work {
-        Work {
+impl WriterWait {
+    pub(crate) fn new() -> WriterWait {
+        WriterWait {
             wakes: CachePadded::new(AtomicU64::new(0)),
             seen: CachePadded::new(AtomicU64::new(0)),
             looks: Looks::new(),
@@ -144,9 +144,9 @@ impl Work {
     }
 }
 
-// What the writer last posted in a row.
+// What the writer last published in a shard.
 #[derive(Drop)]
-struct Post<R: Run> {
+struct PublishedReceipt<R: Run> {
     // The receipt, until its thread takes it.
     receipt: Option<Receipt<R>>,
     // How many items were settled then.
@@ -158,18 +158,18 @@ struct Post<R: Run> {
 // Where threads wait whose ids have the same remainder by 64. A receipt replaces the last one, so a
 // thread that doesn't find its own there looks into the log.
 #[derive(Drop)]
-struct Row<R: Run> {
-    // How many items were settled at the last post, for threads that look.
+struct Shard<R: Run> {
+    // How many items were settled when a receipt was last published, for threads that look.
     settled: CachePadded<AtomicU64>,
-    post: Mutex<Post<R>>,
+    published: Mutex<PublishedReceipt<R>>,
     condition: Condvar,
 }
 
-impl<R: Run> Row<R> {
-    fn new() -> Row<R> {
-        Row {
+impl<R: Run> Shard<R> {
+    fn new() -> Shard<R> {
+        Shard {
             settled: CachePadded::new(AtomicU64::new(0)),
-            post: Mutex::new(Post {
+            published: Mutex::new(PublishedReceipt {
                 receipt: None,
                 settled: 0,
                 ended: false,
@@ -183,20 +183,20 @@ impl<R: Run> Row<R> {
 // which is settled when it is placed. So a settle concerns only the id in hand, and an end concerns
 // all threads.
 //
-// No wake-up is lost. What a thread waits for changes only under its row's lock. The waiting thread
-// holds this lock from its look until it waits. A thread that makes the change wakes the waiting
-// threads of the row afterwards.
+// No wake-up is lost. What a thread waits for changes only under its shard's lock. The waiting
+// thread holds this lock from its look until it waits. A thread that makes the change wakes the
+// waiting threads of the shard afterwards.
 #[derive(Drop)]
 pub(crate) struct Waiters<R: Run> {
-    rows: Vec<Row<R>>,
+    shards: Vec<Shard<R>>,
     looks: CachePadded<Looks>,
     // How many threads wait; 0 with few seats, since a count that all change costs time.
     waiting: CachePadded<AtomicU64>,
     few_seats: bool,
 }
 
-// Only the number of rows is promised. With the rows in the model each proof about `Shared` took
-// too long.
+// Only the number of shards is promised. With the shards in the model each proof about `Shared`
+// took too long.
 impl<R: Run> Model for Waiters<R> {
     ghost use Rattle.std.specs.Prelude.{◌≡◌, length};
 
@@ -204,14 +204,14 @@ impl<R: Run> Model for Waiters<R> {
 
     ghost view = { λ _. tt };
 
-    ghost invariant = { λ waiters. length waiters.rows.items ≡ 64 };
+    ghost invariant = { λ waiters. length waiters.shards.items ≡ 64 };
 }
 
 impl<R: Run> Waiters<R> {
-    // Returns rows without receipts, for this many seats.
+    // Returns shards without receipts, for this many seats.
     pub(crate) fn new(alloc: Global, seats: u64) -> Result<Waiters<R>, AllocError> {
         Ok(Waiters {
-            rows: empty_rows(alloc)?,
+            shards: empty_shards(alloc)?,
             looks: Looks::new(),
             waiting: CachePadded::new(AtomicU64::new(0)),
             few_seats: seats <= FEW_SEATS,
@@ -236,53 +236,53 @@ impl<R: Run> Waiters<R> {
         }
     }
 
-    // Waits until a receipt is posted in the row of this id after more than `from` items are settled,
-    // or until logging has ended. Returns the receipt of this id. Returns None if the row has another
-    // one or none; then the entry may be in the log.
+    // Waits until a receipt is published in the shard of this id after more than `from` items are
+    // settled, or until logging has ended. Returns the receipt of this id. Returns None if the
+    // shard has another one or none; then the entry may be in the log.
     pub(crate) fn wait<H: Wait>(&self, rt: &H, id: Id, from: u64) -> Option<Receipt<R>>
         ensures { IfSome result (λ receipt. receipt.id ≡ id) }
     {
-        let row = &self.rows[row_of(id)];
+        let shard = &self.shards[shard_of(id)];
         if self.waiting.load(Ordering::SeqCst) <= 1 {
-            self.looks.passes(&row.settled, from);
+            self.looks.passes(&shard.settled, from);
         }
-        let mut post = row.post.lock(rt);
+        let mut published = shard.published.lock(rt);
         for _ in rt.forever() {
-            if let Some(receipt) = post.take(id) {
+            if let Some(receipt) = published.take(id) {
                 return Some(receipt);
             }
-            if post.ended || post.settled > from {
+            if published.ended || published.settled > from {
                 return None;
             }
-            post = row.condition.wait(rt, post);
+            published = shard.condition.wait(rt, published);
         }
         unreachable!()
     }
 
-    // Posts a receipt, since `settled` items are settled, and wakes the threads of its row.
-    pub(crate) fn post<H: Wait>(&self, rt: &H, receipt: Receipt<R>, settled: u64) {
-        let row = &self.rows[row_of(receipt.id())];
-        let mut post = row.post.lock(rt);
-        post.receipt = Some(receipt);
-        post.settled = settled;
-        drop(post);
-        row.condition.notify_all();
-        row.settled.store(settled, Ordering::Release);
+    // Publishes a receipt, since `settled` items are settled, and wakes the threads of its shard.
+    pub(crate) fn publish<H: Wait>(&self, rt: &H, receipt: Receipt<R>, settled: u64) {
+        let shard = &self.shards[shard_of(receipt.id())];
+        let mut published = shard.published.lock(rt);
+        published.receipt = Some(receipt);
+        published.settled = settled;
+        drop(published);
+        shard.condition.notify_all();
+        shard.settled.store(settled, Ordering::Release);
     }
 
     // Wakes all waiting threads, since logging ended.
     pub(crate) fn end<H: Wait>(&self, rt: &H) {
-        for row in &self.rows {
-            let mut post = row.post.lock(rt);
-            post.ended = true;
-            drop(post);
-            row.condition.notify_all();
-            row.settled.store(u64::MAX, Ordering::Release);
+        for shard in &self.shards {
+            let mut published = shard.published.lock(rt);
+            published.ended = true;
+            drop(published);
+            shard.condition.notify_all();
+            shard.settled.store(u64::MAX, Ordering::Release);
         }
     }
 }
 
-impl<R: Run> Post<R> {
+impl<R: Run> PublishedReceipt<R> {
     // Takes the receipt if it is that of this id.
     fn take(&mut self, id: Id) -> Option<Receipt<R>>
         ensures { IfSome result (λ receipt. receipt.id ≡ id) }
@@ -294,19 +294,19 @@ impl<R: Run> Post<R> {
     }
 }
 
-// Returns rows without receipts.
-fn empty_rows<R: Run>(alloc: Global) -> Result<Vec<Row<R>>, AllocError>
-    ensures { IfOk result (λ rows. length rows.items ≡ 64) }
+// Returns shards without receipts.
+fn empty_shards<R: Run>(alloc: Global) -> Result<Vec<Shard<R>>, AllocError>
+    ensures { IfOk result (λ shards. length shards.items ≡ 64) }
 {
-    let mut rows = Vec::new(alloc);
-    for _ in 0..ROWS {
-        rows.push(Row::new())?;
+    let mut shards = Vec::new(alloc);
+    for _ in 0..SHARDS {
+        shards.push(Shard::new())?;
     }
-    Ok(rows)
+    Ok(shards)
 }
 
-// Returns the index of an id's row.
-fn row_of(id: Id) -> usize
+// Returns the index of an id's shard.
+fn shard_of(id: Id) -> usize
     ensures { result < 64 }
 {
     (id.place() % 64) as usize

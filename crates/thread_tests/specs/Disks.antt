@@ -7,7 +7,7 @@ abbrev pub disk_ground : ℕ → Ground
 disk_ground sectors =
     record {
       size = sectors;
-      place = record { origin = 0; disk = sectors };
+      origin = record { sector = 0; disk = sectors };
       can_lie = false;
       lies = 0;
       faults = 0;

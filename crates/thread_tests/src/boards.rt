@@ -1,4 +1,4 @@
-//! Tests of which status a reader reads from a board, and of a keeper and its holders.
+//! Tests of which status a reader reads from a board, and of a registry and its handles.
 ghost use Rattle.std.specs.Prelude.{◌≡◌};
 
 use bio::{End, Status};
@@ -11,7 +11,8 @@ use std::process::Abort;
 use std::test::*;
 use test_devices::is_same;
 
-// Statuses to post in this order: entries, sector and end, and whether the status may be posted.
+// Statuses to publish in this order: entries, sector and end, and whether the status may be
+// published.
 const ROWS: [(u64, u64, Option<End>, bool); 12] = [
     (0, 0, None, true),
     (3, 4, None, true),
@@ -27,8 +28,8 @@ const ROWS: [(u64, u64, Option<End>, bool); 12] = [
     (1_048_576, 1_048_576, Some(End::Full), true),
 ];
 
-// Posts the status if the writer may post it. Returns whether it was posted.
-fn post<N: Names>(board: &Board<N>, writer: &mut WriterSeat<N>, status: Status) -> bool {
+// Publishes the status if the writer may publish it. Returns whether it was published.
+fn publish_status<N: Names>(board: &Board<N>, writer: &mut WriterSeat<N>, status: Status) -> bool {
     let may_publish = writer.may_publish(status);
     if may_publish {
         board.publish(writer, status);
@@ -36,8 +37,8 @@ fn post<N: Names>(board: &Board<N>, writer: &mut WriterSeat<N>, status: Status) 
     may_publish
 }
 
-// Tries to post each row's status. Checks that a reader, and another that is made after it, both
-// read the status that was posted last.
+// Tries to publish each row's status. Checks that a reader, and another that is made after it, both
+// read the status that was published last.
 fn rows_are_read<N: Names>(rt: &impl Print, blank: Blank) -> bool
     requires { blank ≡ N.board }
 {
@@ -54,7 +55,7 @@ fn rows_are_read<N: Names>(rt: &impl Print, blank: Blank) -> bool
         },
         "at first",
     );
-    for (entries, sector, end, may_post) in ROWS {
+    for (entries, sector, end, may_publish) in ROWS {
         let status = Status {
             entries,
             sector,
@@ -62,10 +63,10 @@ fn rows_are_read<N: Names>(rt: &impl Print, blank: Blank) -> bool
         };
         if is_same(
             rt,
-            &post(&board, &mut writer, status),
-            &may_post,
+            &publish_status(&board, &mut writer, status),
+            &may_publish,
             "is posted",
-        ) && may_post
+        ) && may_publish
         {
             last = status;
         }
@@ -80,12 +81,12 @@ fn rows_are_read<N: Names>(rt: &impl Print, blank: Blank) -> bool
 
 // A reader, and the status that it read last.
 #[derive(Drop)]
-struct Reader<N: Names> {
+struct BoardReader<N: Names> {
     seat: StatusSeat<N>,
     last: Status,
 }
 
-// Makes `count` readers, and then posts a status. Returns whether each of them reads it.
+// Makes `count` readers, and then publishes a status. Returns whether each of them reads it.
 fn are_reading<N: Names>(rt: &impl Abort, alloc: Global, blank: Blank, count: usize) -> bool
     requires { blank ≡ N.board }
 {
@@ -94,14 +95,16 @@ fn are_reading<N: Names>(rt: &impl Abort, alloc: Global, blank: Blank, count: us
     let mut readers = Vec::new(alloc);
     for _ in 0..count {
         let seat = board.reader(&mut writer);
-        readers.push(Reader { seat, last }).expect(rt, "memory");
+        readers
+            .push(BoardReader { seat, last })
+            .expect(rt, "memory");
     }
     let status = Status {
         entries: 3,
         sector: 4,
         end: None,
     };
-    post(&board, &mut writer, status);
+    publish_status(&board, &mut writer, status);
     for reader in readers.iter_mut() {
         reader.last = board.read(&mut reader.seat);
     }
@@ -109,7 +112,7 @@ fn are_reading<N: Names>(rt: &impl Abort, alloc: Global, blank: Blank, count: us
 }
 
 #[test]
-fn a_reader_reads_what_was_posted_last(rt: HostRuntime) -> Result<(), Fail> {
+fn a_reader_reads_what_was_published_last(rt: HostRuntime) -> Result<(), Fail> {
     let blank = Blank::new(rt.alloc())?;
     assert!(rt; rows_are_read::<Brand>(&rt, blank));
     Ok(())
@@ -122,24 +125,24 @@ fn sixty_four_readers_read_the_same(rt: HostRuntime) -> Result<(), Fail> {
     Ok(())
 }
 
-// Two holders begin and finish numbers in turn. The keeper agrees with the first holder before it
+// Two handles begin and finish numbers in turn. The registry agrees with the first handle before it
 // finishes.
 fn are_held<W: Whose>(fresh: Fresh)
     requires { fresh ≡ W.table }
 {
-    let mut keeper = fresh.named::<W>();
-    let mut one = keeper.enrol();
-    let mut other = keeper.enrol();
-    keeper.begin(&mut one, 7);
-    keeper.begin(&mut other, 9);
-    keeper.agree(&mut one);
-    keeper.finish(&mut one);
-    keeper.begin(&mut one, u64::MAX);
-    keeper.finish(&mut other);
+    let mut registry = fresh.named::<W>();
+    let mut one = registry.enrol();
+    let mut other = registry.enrol();
+    registry.begin(&mut one, 7);
+    registry.begin(&mut other, 9);
+    registry.agree(&mut one);
+    registry.finish(&mut one);
+    registry.begin(&mut one, u64::MAX);
+    registry.finish(&mut other);
 }
 
 #[test]
-fn two_holders_take_and_let_go(rt: HostRuntime) -> Result<(), Fail> {
+fn two_handles_take_and_let_go(rt: HostRuntime) -> Result<(), Fail> {
     are_held::<Brand>(Fresh::new(rt.alloc())?);
     Ok(())
 }

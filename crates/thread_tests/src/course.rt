@@ -6,10 +6,10 @@ use std::thread::sleep;
 use std::time::{Clock, Duration};
 
 // A seat looks at most this often how far other threads have come, and sleeps for a millisecond
-// after each look. A gate holds a call for longer than that.
+// after each look. A barrier holds a call for longer than that.
 const SEAT_LOOKS: u64 = 5_000;
 
-// The watching thread looks at most this often, so it waits for longer than a gate holds a call.
+// The watching thread looks at most this often, so it waits for longer than a barrier holds a call.
 const WATCH_LOOKS: u64 = 120_000;
 
 /// What the threads of a recorder noted of their calls and ends.

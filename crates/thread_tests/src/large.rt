@@ -1,12 +1,12 @@
 //! Tests with four seats, which fill a log or find it full, and read what they wrote.
 ghost use Rattle.std.specs.Prelude.{◌<◌, ◌≤◌};
 
-use crate::play::{Played, Table};
+use crate::play::{PlayResults, Table};
 use crate::scenes::{open_disk, stage, tally};
-use crate::work::{Call, Tally};
+use crate::work::{WorkCall, WorkTally};
 use bio::{End, Id, Ms, Status};
 use blockdev::BlockDev;
-use lock_state::Item;
+use lock_state::LogItem;
 use log_reader::LogReader;
 use sector_disk::SectorDisk;
 use std::alloc::Global;
@@ -34,14 +34,14 @@ fn writes_and_mark(rt: &impl Abort, alloc: Global, seat: u64) -> Table
 {
     let mut calls = Vec::new(alloc);
     for place in 0..OWN {
-        let write = Call::Write {
+        let write = WorkCall::Write {
             first: seat * OWN + place,
             byte: seat as u8 + 1,
             fua: false,
         };
         calls.push(write).expect(rt, "memory");
     }
-    let mark = Call::Mark {
+    let mark = WorkCall::Mark {
         byte: seat as u8 + 49,
     };
     calls.push(mark).expect(rt, "memory");
@@ -53,7 +53,7 @@ fn writes_and_mark(rt: &impl Abort, alloc: Global, seat: u64) -> Table
 }
 
 // Returns whether each of four seats had the answers `wanted`.
-fn have_answers(rt: &impl Print, found: &[Tally], wanted: &Tally) -> bool {
+fn have_answers(rt: &impl Print, found: &[WorkTally], wanted: &WorkTally) -> bool {
     let mut have = is_same(rt, &found.len(), &4, "seats");
     for place in 0..found.len() {
         have = is_same(rt, &found[place], wanted, "a seat's answers") && have;
@@ -71,7 +71,7 @@ fn have_seen(rt: &impl Print, seen: &[Status], last: &Status) -> bool {
 }
 
 // Returns whether a receipt names the placed mark whose text is `byte`.
-fn is_marks(receipt: (Id, u64), placed: &[Item], byte: u8) -> bool {
+fn is_marks(receipt: (Id, u64), placed: &[LogItem], byte: u8) -> bool {
     let (id, number) = receipt;
     match placed.get(number as usize) {
         Some(item) => { item.id == id && item.entry.body.as_slice() == [byte].as_slice() }
@@ -81,7 +81,7 @@ fn is_marks(receipt: (Id, u64), placed: &[Item], byte: u8) -> bool {
 
 // Returns whether there are four receipts, one for the mark of each seat, and whether each names
 // its item.
-fn are_named(rt: &impl Print, receipts: &[(Id, u64)], placed: &[Item]) -> bool {
+fn are_named(rt: &impl Print, receipts: &[(Id, u64)], placed: &[LogItem]) -> bool {
     if receipts.len() != 4 {
         return holds(rt, false, "four receipts");
     }
@@ -121,7 +121,11 @@ fn marking_tables(rt: &impl Abort, alloc: Global) -> Vec<Table> {
 
 // Returns whether the answers, the receipts and the status of four seats are right, and what the
 // readers read.
-fn is_as_wanted<D: Drop, L: Drop>(rt: &impl Print, played: &Played<D, L>, status: &Status) -> bool {
+fn is_as_wanted<D: Drop, L: Drop>(
+    rt: &impl Print,
+    played: &PlayResults<D, L>,
+    status: &Status,
+) -> bool {
     let closed = &played.closed;
     let has_status = is_same(rt, &closed.status, status, "four seats' status");
     let have_answered = have_answers(rt, played.tallies.as_slice(), &tally(OWN, 1, 0));
@@ -185,15 +189,17 @@ fn writes_read_back(rt: &impl Abort, alloc: Global, seat: u64) -> Table
     for place in 0..OWN {
         let first = seat * OWN + place;
         let byte = place as u8 + 1;
-        let write = Call::Write {
+        let write = WorkCall::Write {
             first,
             byte,
             fua: false,
         };
         calls.push(write).expect(rt, "memory");
-        calls.push(Call::Read { first, byte }).expect(rt, "memory");
+        calls
+            .push(WorkCall::Read { first, byte })
+            .expect(rt, "memory");
     }
-    calls.push(Call::Flush).expect(rt, "memory");
+    calls.push(WorkCall::Flush).expect(rt, "memory");
     Table {
         calls,
         late: late_calls(rt, alloc, seat * OWN),
@@ -204,32 +210,32 @@ fn writes_read_back(rt: &impl Abort, alloc: Global, seat: u64) -> Table
 // Returns the calls of a seat after `ask_close`; `first` is its first sector. It writes this
 // sector, writes the second one with FUA, and discards the third. Then it reads each of the three,
 // and marks.
-fn late_calls(rt: &impl Abort, alloc: Global, first: u64) -> Vec<Call>
+fn late_calls(rt: &impl Abort, alloc: Global, first: u64) -> Vec<WorkCall>
     requires { first < 400 }
 {
     let byte = LATE;
     vec![in alloc;
-        Call::Write {
+        WorkCall::Write {
             first,
             byte,
             fua: false,
         },
-        Call::Read { first, byte },
-        Call::Write {
+        WorkCall::Read { first, byte },
+        WorkCall::Write {
             first: first + 1,
             byte,
             fua: true,
         },
-        Call::Read {
+        WorkCall::Read {
             first: first + 1,
             byte,
         },
-        Call::Discard { first: first + 2 },
-        Call::Read {
+        WorkCall::Discard { first: first + 2 },
+        WorkCall::Read {
             first: first + 2,
             byte: 0,
         },
-        Call::Mark { byte },
+        WorkCall::Mark { byte },
     ]
     .expect(rt, "memory")
 }
@@ -302,7 +308,7 @@ fn readback<H: Threads + Wait + Clock + Print + Sync + Send + Copy + Drop + Abor
     let device = open_disk(rt, alloc, SEATS * OWN);
     let log = open_disk(rt, alloc, 1000);
     let played = stage(rt, alloc, tables, device, log, 0);
-    let wanted = Tally {
+    let wanted = WorkTally {
         refused: 1,
         ..tally(OWN + 4, 0, OWN + 3)
     };

@@ -3,11 +3,11 @@
 #![tactic(auto)]
 
 #[cfg(test)]
+mod barrier;
+#[cfg(test)]
 mod boards;
 #[cfg(test)]
 mod course;
-#[cfg(test)]
-mod gate;
 #[cfg(test)]
 mod histories;
 #[cfg(test)]

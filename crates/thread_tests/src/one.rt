@@ -33,10 +33,11 @@ const MOMENT: u64 = 5;
 // An answer is a letter too: `d` done, `f` read 7 and 9, `o` read something else, `l` logged, `m`
 // not logged for lack of memory, `n` not logged, `x` refused since recording was closed, `e`
 // another refusal, `b` busy. A status is the last digits of its entries and its sector, and `e` if
-// the log has ended. A close that is Ok shows a colon, the status, and how many items are placed, are
-// settled, and were placed by the writer. Then comes `n` if logging hadn't ended and no waiter was
-// released, `p` if that status was posted last (only the writer posts), and `t` if the device's last
-// call began at `MOMENT`. At the end is the last digit of how many calls the device did.
+// the log has ended. A close that is Ok shows a colon, the status, and how many items are placed,
+// are settled, and were placed by the writer. Then comes `n` if logging hadn't ended and no waiter
+// was released, `p` if that status was published last (only the writer publishes), and `t` if the
+// device's last call began at `MOMENT`. At the end is the last digit of how many calls the device
+// did.
 const ROWS: &str = "\
 w|aa=dbdd:23220nt1
 swfxrals=00dddfd.46:46444npt4
@@ -175,7 +176,6 @@ fn read_letter(bytes: &[u8]) -> char {
     if is_found { 'f' } else { 'o' }
 }
 
-// Returns the letter of an answer.
 fn answer_letter<C>(answer: &Answer<C>) -> char {
     match answer {
         Answer::Done => 'd',
@@ -187,7 +187,6 @@ fn answer_letter<C>(answer: &Answer<C>) -> char {
     }
 }
 
-// Returns the letter of a mark's answer.
 fn mark_letter<C>(answer: &MarkAnswer<C>) -> char {
     match answer {
         MarkAnswer::Logged(_) => 'l',
@@ -245,7 +244,6 @@ fn make<R: Run + Names, H: Wait + Abort>(
     said.push(answer).expect(rt, "memory");
 }
 
-// Adds a status.
 fn show_status(rt: &impl Abort, status: Status, said: &mut String) {
     said.push(digit(status.entries)).expect(rt, "memory");
     said.push(digit(status.sector)).expect(rt, "memory");
@@ -284,18 +282,19 @@ fn show<R: Run + Names>(
     }
 }
 
-// Adds whether the log's status was posted last, whether the device's last call began at `MOMENT`, and
-// how many calls the device did. The statuses that the reader read are a prefix of the posted ones.
-fn show_posts<R: Run + Names>(
+// Adds whether the log's status was published last, whether the device's last call began at
+// `MOMENT`, and how many calls the device did. The statuses that the reader read are a prefix of
+// the published ones.
+fn show_published<R: Run + Names>(
     rt: &impl Abort,
     ending: &mut Ending<Device, SectorDisk, R>,
     readers: &mut Vec<StatusSeat<R>>,
     said: &mut String,
 ) {
     ending
-        .posts
+        .published
         .agree(readers.last_mut().expect(rt, "a reader"));
-    if ending.posts.last() == ending.closed.status {
+    if ending.published.last() == ending.closed.status {
         said.push('p').expect(rt, "memory");
     }
     if ending.closed.device.last == Ms::new(MOMENT) {
@@ -321,7 +320,7 @@ fn close<R: Run + Names>(
     match recorder.close(seats, writer, Vec::new(alloc)) {
         Ok(mut ending) => {
             show(rt, &ending, said);
-            show_posts(rt, &mut ending, &mut readers, said);
+            show_published(rt, &mut ending, &mut readers, said);
             None
         }
         Err(Unclosed::Busy(back)) => {
@@ -341,15 +340,15 @@ fn close<R: Run + Names>(
 }
 
 // Adds whether a close that is refused as foreign returns the seat, and whether nothing is placed or
-// posted.
+// published.
 fn show_foreign<R: Run + Names>(
     rt: &impl Abort,
     back: &Mismatch<Device, SectorDisk, R>,
     said: &mut String,
 ) {
     let is_back = back.seats.len() == 1 && back.closed.placed.is_empty();
-    let is_unposted = back.posts.last().entries == 0;
-    said.push(if is_back && is_unposted { 'F' } else { 'e' })
+    let is_unpublished = back.published.last().entries == 0;
+    said.push(if is_back && is_unpublished { 'F' } else { 'e' })
         .expect(rt, "memory");
 }
 

@@ -3,9 +3,9 @@ ghost use Rattle.std.specs.Prelude.{◌≡◌, ℕ, ◌<◌, ◌≤◌};
 ghost use Rattle.std.specs.Thread.{IsSend};
 ghost use Rattle.lock_state.specs.PlacedItems.{ground_of};
 
+use crate::barrier::Sign;
 use crate::course::Course;
-use crate::gate::Sign;
-use crate::work::{Call, Player, Tally, Work};
+use crate::work::{SeatPlayer, SeatWork, WorkCall, WorkTally};
 use bio::{End, Id, Status};
 use blockdev::BlockDev;
 use board::Names;
@@ -22,8 +22,8 @@ use std::time::Clock;
 /// sign `after`, if there is one.
 #[derive(Drop)]
 pub struct Table {
-    pub calls: Vec<Call>,
-    pub late: Vec<Call>,
+    pub calls: Vec<WorkCall>,
+    pub late: Vec<WorkCall>,
     pub after: Option<Sign>,
 }
 
@@ -58,8 +58,8 @@ impl<R: Run + Names> Watch<R> {
 /// The results of a closed recorder. `tallies` has a tally for each table, in their order. `let_go`
 /// says whether each seat with a sign released a held call.
 #[derive(Drop)]
-pub struct Played<D: Drop, L: Drop> {
-    pub tallies: Vec<Tally>,
+pub struct PlayResults<D: Drop, L: Drop> {
+    pub tallies: Vec<WorkTally>,
     pub let_go: bool,
     /// For each reader, the status that it read after all threads had ended.
     pub seen: Vec<Status>,
@@ -75,7 +75,7 @@ pub struct Played<D: Drop, L: Drop> {
 // The seats and the readers after all calls.
 #[derive(Drop)]
 struct Called<R: Run + Names> {
-    works: Vec<Work<R>>,
+    works: Vec<SeatWork<R>>,
     watches: Vec<Watch<R>>,
 }
 
@@ -92,7 +92,7 @@ fn run_all<
     alloc: Global,
     recorder: &Shared<D, L, R>,
     writer: &mut WriterSeat<R>,
-    works: Vec<Work<R>>,
+    works: Vec<SeatWork<R>>,
     watches: Vec<Watch<R>>,
 ) -> Called<R> {
     let course = Course::new();
@@ -156,17 +156,17 @@ fn call_all<
     rt: &H,
     alloc: Global,
     recorder: &Shared<D, L, R>,
-    works: Vec<Work<R>>,
+    works: Vec<SeatWork<R>>,
     course: &Course,
     late: bool,
-) -> Vec<Work<R>> {
+) -> Vec<SeatWork<R>> {
     let mut works = works;
     let threads = works.len().saturating_add(1);
     thread::for_each_mut(
         rt,
         works.as_mut_slice(),
         threads,
-        &|_, work: &mut Work<R>| { work.run(rt, alloc, recorder, course, late) },
+        &|_, work: &mut SeatWork<R>| { work.run(rt, alloc, recorder, course, late) },
     );
     works
 }
@@ -177,14 +177,14 @@ fn works_of<R: Run + Names>(
     alloc: Global,
     seats: Vec<Seat<R>>,
     tables: Vec<Table>,
-) -> Vec<Work<R>> {
+) -> Vec<SeatWork<R>> {
     let mut works = Vec::new(alloc);
     for (seat, table) in seats.into_iter().zip(tables) {
         works
-            .push(Work {
-                player: Player {
+            .push(SeatWork {
+                player: SeatPlayer {
                     seat,
-                    tally: Tally::new(),
+                    tally: WorkTally::new(),
                     receipts: Vec::new(alloc),
                 },
                 calls: table.calls,
@@ -223,22 +223,26 @@ fn watches_of<R: Run + Names>(
 
 // What the works leave: seats, receipts and tallies.
 #[derive(Drop)]
-struct Parts<R: Run + Names> {
+struct Leavings<R: Run + Names> {
     seats: Vec<Seat<R>>,
     receipts: Vec<Receipt<R>>,
-    tallies: Vec<Tally>,
+    tallies: Vec<WorkTally>,
     let_go: bool,
 }
 
 // Splits the works into their seats, their tallies in the same order, and their receipts.
-fn parts_of<R: Run + Names>(rt: &impl Abort, alloc: Global, works: Vec<Work<R>>) -> Parts<R> {
+fn parts_of<R: Run + Names>(
+    rt: &impl Abort,
+    alloc: Global,
+    works: Vec<SeatWork<R>>,
+) -> Leavings<R> {
     let mut seats = Vec::new(alloc);
     let mut receipts = Vec::new(alloc);
     let mut tallies = Vec::new(alloc);
     let mut let_go = true;
     for work in works {
         let_go = let_go && work.let_go;
-        let Player {
+        let SeatPlayer {
             seat,
             tally,
             receipts: mut own,
@@ -247,7 +251,7 @@ fn parts_of<R: Run + Names>(rt: &impl Abort, alloc: Global, works: Vec<Work<R>>)
         receipts.append(&mut own).expect(rt, "memory");
         seats.push(seat).expect(rt, "memory");
     }
-    Parts {
+    Leavings {
         seats,
         receipts,
         tallies,
@@ -255,7 +259,6 @@ fn parts_of<R: Run + Names>(rt: &impl Abort, alloc: Global, works: Vec<Work<R>>)
     }
 }
 
-// Returns the id and the number of each receipt.
 fn names_of<R: Run>(rt: &impl Abort, alloc: Global, receipts: &[Receipt<R>]) -> Vec<(Id, u64)> {
     let mut names = Vec::new(alloc);
     for receipt in receipts {
@@ -301,7 +304,7 @@ pub fn play<
     tables: Vec<Table>,
     count: u64,
     readers: u64,
-) -> Played<D, L>
+) -> PlayResults<D, L>
     requires seats { (0 < count) × (count ≤ 64) }
     requires readers { readers ≤ 64 }
     requires ledger { (unnamed.ledger.name ≡ R.name) × (unnamed.ledger.parts ≡ R.parts)
@@ -336,10 +339,10 @@ fn end<D: BlockDev + Drop, L: BlockDev + Drop, R: Run + Names>(
     recorder: Shared<D, L, R>,
     writer: WriterSeat<R>,
     called: Called<R>,
-) -> Played<D, L> {
+) -> PlayResults<D, L> {
     let Called { works, watches } = called;
     let (seen, rises) = last_looks(rt, alloc, &recorder, watches);
-    let Parts {
+    let Leavings {
         seats,
         receipts,
         tallies,
@@ -348,7 +351,7 @@ fn end<D: BlockDev + Drop, L: BlockDev + Drop, R: Run + Names>(
     let kept = names_of(rt, alloc, receipts.as_slice());
     let Ending {
         closed,
-        posts: _,
+        published: _,
         released,
         written: _,
         found: _,
@@ -356,7 +359,7 @@ fn end<D: BlockDev + Drop, L: BlockDev + Drop, R: Run + Names>(
         .close(seats, writer, receipts)
         .ok()
         .expect(rt, "a close");
-    Played {
+    PlayResults {
         tallies,
         let_go,
         seen,

@@ -67,7 +67,6 @@ fn turn<R: Run>(queue: &mut QueueState<R>, log: &mut LogState<SectorDisk, R>) ->
     log.place(&mut hand).is_ok()
 }
 
-// Records a mark of a seat. Returns whether it was recorded.
 fn mark<R: Run>(
     rt: &impl Abort,
     alloc: Global,
@@ -79,7 +78,7 @@ fn mark<R: Run>(
     queue.mark(&mut seat.part, &text).is_ok()
 }
 
-// Notes a call of a seat as passed, if recording has ended. Returns whether it has.
+// Notes a call of a seat as unrecorded, if recording has ended. Returns whether it has.
 fn pass<R: Run>(queue: &QueueState<R>, seat: &mut Seat<R>) -> bool {
     if queue.is_recording() {
         return false;
@@ -147,8 +146,8 @@ fn agree<R: Run>(
     has_both && is_served(rt, alloc, queue, data_state)
 }
 
-// Records the requests of two seats. Returns whether the seats' lists, their passed calls and the
-// placed items agree with the history.
+// Records the requests of two seats. Returns whether the seats' lists, their unrecorded calls and
+// the placed items agree with the history.
 fn is_recorded<R: Run>(
     rt: &(impl Print + Abort),
     alloc: Global,
@@ -184,7 +183,7 @@ fn two_seats_record<R: Run>(
     device: SectorDisk,
 ) -> bool
     requires ledger { (blank.name ≡ R.name) × (blank.parts ≡ R.parts) × (blank.parts ≡ 2) }
-    requires holders { (fresh.0 ≡ R.table) × (fresh.1 ≡ R.stops) × (fresh.2 ≡ R.ends)
+    requires handles { (fresh.0 ≡ R.table) × (fresh.1 ≡ R.stops) × (fresh.2 ≡ R.ends)
         × (fresh.3 ≡ R.reads) }
     requires size { bytes_of size ≡ R.sector_bytes }
     requires sectors { R.sectors ≡ 64 }
@@ -192,7 +191,7 @@ fn two_seats_record<R: Run>(
         × (R.log ≡ ground_of (store_of store).device) }
     requires empty { ((store_of store).placed ≡ 0) × ((store_of store).next ≡ 1)
         × ((store_of store).end ≡ None) }
-    requires begins { R.begins (store_of store).device.moment }
+    requires begins { R.begins (store_of store).device.clock }
     requires device { (shown_of device).size ≡ 64 }
 {
     let (table, stops, ends, reads) = fresh;
@@ -215,7 +214,7 @@ fn two_seats_record<R: Run>(
     )
 }
 
-// Returns four new keepers without a name.
+// Returns four new registries without a name.
 pub fn four(rt: &impl Abort, alloc: Global) -> (Fresh, Fresh, Fresh, Fresh) {
     let table = Fresh::new(alloc).expect(rt, "memory");
     let stops = Fresh::new(alloc).expect(rt, "memory");
@@ -224,7 +223,6 @@ pub fn four(rt: &impl Abort, alloc: Global) -> (Fresh, Fresh, Fresh, Fresh) {
     (table, stops, ends, reads)
 }
 
-// Makes a new recorder with two seats, and returns what `two_seats_record` returns.
 fn two_seats(rt: &(impl Print + Abort), alloc: Global, size: SectorSize) -> bool {
     let blank = Blank::new(2);
     let fresh = four(rt, alloc);

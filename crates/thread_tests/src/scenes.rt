@@ -2,9 +2,9 @@
 //! meanwhile. A log has hardly any room, or none. A log's device fails. The recorded device fails.
 ghost use Rattle.std.specs.Prelude.{◌<◌, ◌≤◌};
 
-use crate::gate::{Gate, Sign};
-use crate::play::{Played, Table, play};
-use crate::work::{Call, Tally};
+use crate::barrier::{Barrier, Sign};
+use crate::play::{PlayResults, Table, play};
+use crate::work::{WorkCall, WorkTally};
 use bio::{End, Status};
 use blockdev::BlockDev;
 use sector_disk::SectorDisk;
@@ -23,8 +23,8 @@ use test_devices::{Failing, holds, is_same};
 const FEW: u64 = 64;
 
 /// Returns a tally with these counts, and with 0 for all other answers.
-pub fn tally(done: u64, logged: u64, found: u64) -> Tally {
-    Tally {
+pub fn tally(done: u64, logged: u64, found: u64) -> WorkTally {
+    WorkTally {
         done,
         logged,
         failed: 0,
@@ -36,7 +36,7 @@ pub fn tally(done: u64, logged: u64, found: u64) -> Tally {
 }
 
 /// Returns a table with one call. The seat waits for the sign `after`, if there is one.
-pub fn alone(rt: &impl Abort, alloc: Global, call: Call, after: Option<Sign>) -> Table {
+pub fn alone(rt: &impl Abort, alloc: Global, call: WorkCall, after: Option<Sign>) -> Table {
     Table {
         calls: vec![in alloc; call; 1].expect(rt, "memory"),
         late: Vec::new(alloc),
@@ -44,16 +44,16 @@ pub fn alone(rt: &impl Abort, alloc: Global, call: Call, after: Option<Sign>) ->
     }
 }
 
-/// Returns a disk under a gate that holds no call.
+/// Returns a disk under a barrier that holds no call.
 pub fn open_disk<H: Clock + Copy + Drop + Abort>(
     rt: &H,
     alloc: Global,
     sectors: u64,
-) -> Gate<SectorDisk, H>
+) -> Barrier<SectorDisk, H>
     requires { (0 < sectors) × (sectors ≤ 1048576) }
 {
     let disk = SectorDisk::new(alloc, sectors).expect(rt, "memory");
-    Gate::open(disk, *rt, Sign::new(alloc).expect(rt, "memory"))
+    Barrier::open(disk, *rt, Sign::new(alloc).expect(rt, "memory"))
 }
 
 /// Makes the calls of the tables on these devices, with `readers` readers.
@@ -61,7 +61,7 @@ pub fn stage<
     D: BlockDev + Drop + Send,
     L: BlockDev + Drop + Send,
     H: Threads + Wait + Clock + Sync + Abort,
->(rt: &H, alloc: Global, tables: Vec<Table>, device: D, log: L, readers: u64) -> Played<D, L>
+>(rt: &H, alloc: Global, tables: Vec<Table>, device: D, log: L, readers: u64) -> PlayResults<D, L>
     requires { readers ≤ 64 }
 {
     let count = tables.len() as u64;
@@ -72,7 +72,7 @@ pub fn stage<
 
 // Which device holds a call.
 #[derive(Clone, Copy, Debug, PartialEq, Eq)]
-enum Held {
+enum HeldDevice {
     Device,
     Log,
 }
@@ -81,19 +81,19 @@ enum Held {
 // passes `passes` writes to `sector`, and holds the next one until the second seat's call is
 // answered. `tallies` are the expected answers.
 #[derive(Clone, Copy, Debug)]
-struct Scene {
-    held: Held,
+struct TwoSeats {
+    held: HeldDevice,
     sector: u64,
     passes: u64,
     before: u64,
-    calls: (Call, Call),
-    tallies: (Tally, Tally),
+    calls: (WorkCall, WorkCall),
+    tallies: (WorkTally, WorkTally),
     // The expected status of the log in the end.
     status: Status,
 }
 
 // Returns the tables of both seats. The second seat waits until a call is held.
-fn two_tables(rt: &impl Abort, alloc: Global, scene: &Scene, sign: Sign) -> Vec<Table> {
+fn two_tables(rt: &impl Abort, alloc: Global, scene: &TwoSeats, sign: Sign) -> Vec<Table> {
     let mut tables = Vec::new(alloc);
     tables
         .push(Table {
@@ -109,10 +109,10 @@ fn two_tables(rt: &impl Abort, alloc: Global, scene: &Scene, sign: Sign) -> Vec<
 }
 
 /// Returns this many plain writes, and then the call.
-pub fn after_writes(rt: &impl Abort, alloc: Global, before: u64, call: Call) -> Vec<Call> {
+pub fn after_writes(rt: &impl Abort, alloc: Global, before: u64, call: WorkCall) -> Vec<WorkCall> {
     let mut calls = Vec::new(alloc);
     for _ in 0..before {
-        let write = Call::Write {
+        let write = WorkCall::Write {
             first: 1,
             byte: 1,
             fua: false,
@@ -124,7 +124,7 @@ pub fn after_writes(rt: &impl Abort, alloc: Global, before: u64, call: Call) -> 
 }
 
 // Returns whether each of two seats had the answers `wanted`.
-fn are_answered(rt: &impl Print, found: &[Tally], wanted: (Tally, Tally)) -> bool {
+fn are_answered(rt: &impl Print, found: &[WorkTally], wanted: (WorkTally, WorkTally)) -> bool {
     let [one, other] = found else {
         return holds(rt, false, "two tallies");
     };
@@ -134,27 +134,31 @@ fn are_answered(rt: &impl Print, found: &[Tally], wanted: (Tally, Tally)) -> boo
 
 // Plays a scene. Returns whether the call was still held when the second seat's call was answered.
 // The answers and the status must be as expected too.
-fn gated<H: Threads + Wait + Clock + Print + Sync + Send + Copy + Drop + Abort>(
+fn behind_barrier<H: Threads + Wait + Clock + Print + Sync + Send + Copy + Drop + Abort>(
     rt: &H,
     alloc: Global,
-    scene: Scene,
+    scene: TwoSeats,
 ) -> bool {
     let sign = Sign::new(alloc).expect(rt, "memory");
     let other = sign.again().expect(rt, "memory");
     let tables = two_tables(rt, alloc, &scene, sign);
     let disk = SectorDisk::new(alloc, FEW).expect(rt, "memory");
-    let holding = Gate::holding(disk, *rt, other, scene.sector, scene.passes);
+    let holding = Barrier::holding(disk, *rt, other, scene.sector, scene.passes);
     let open = open_disk(rt, alloc, FEW);
     let (device, log) = match scene.held {
-        Held::Device => (holding, open),
-        Held::Log => (open, holding),
+        HeldDevice::Device => (holding, open),
+        HeldDevice::Log => (open, holding),
     };
     let played = stage(rt, alloc, tables, device, log, 0);
     is_as_wanted(rt, &played, &scene)
 }
 
 // Returns whether the answers and the status are as expected.
-fn is_as_wanted<D: Drop, L: Drop>(rt: &impl Print, played: &Played<D, L>, scene: &Scene) -> bool {
+fn is_as_wanted<D: Drop, L: Drop>(
+    rt: &impl Print,
+    played: &PlayResults<D, L>,
+    scene: &TwoSeats,
+) -> bool {
     let is_let_go = holds(
         rt,
         played.let_go,
@@ -184,14 +188,14 @@ fn goes_on(entries: u64, sector: u64) -> Status {
 // answered.
 #[test]
 fn a_write_is_answered_while_the_log_is_written(rt: HostRuntime) -> Result<(), Fail> {
-    let scene = Scene {
-        held: Held::Log,
+    let scene = TwoSeats {
+        held: HeldDevice::Log,
         sector: 1,
         passes: 0,
         before: 0,
         calls: (
-            Call::Flush,
-            Call::Write {
+            WorkCall::Flush,
+            WorkCall::Write {
                 first: 1,
                 byte: 1,
                 fua: false,
@@ -200,7 +204,7 @@ fn a_write_is_answered_while_the_log_is_written(rt: HostRuntime) -> Result<(), F
         tallies: (tally(1, 0, 0), tally(1, 0, 0)),
         status: goes_on(3, 4),
     };
-    assert!(rt; gated(&rt, rt.alloc(), scene));
+    assert!(rt; behind_barrier(&rt, rt.alloc(), scene));
     Ok(())
 }
 
@@ -208,19 +212,19 @@ fn a_write_is_answered_while_the_log_is_written(rt: HostRuntime) -> Result<(), F
 // finishes the entry.
 #[test]
 fn a_taken_entry_is_written_after_a_stop(rt: HostRuntime) -> Result<(), Fail> {
-    let scene = Scene {
-        held: Held::Log,
+    let scene = TwoSeats {
+        held: HeldDevice::Log,
         sector: 1,
         passes: 0,
         before: 0,
-        calls: (Call::Flush, Call::GiveUp),
+        calls: (WorkCall::Flush, WorkCall::GiveUp),
         tallies: (tally(1, 0, 0), tally(1, 0, 0)),
         status: Status {
             end: Some(End::Memory),
             ..goes_on(1, 1)
         },
     };
-    assert!(rt; gated(&rt, rt.alloc(), scene));
+    assert!(rt; behind_barrier(&rt, rt.alloc(), scene));
     Ok(())
 }
 
@@ -228,40 +232,40 @@ fn a_taken_entry_is_written_after_a_stop(rt: HostRuntime) -> Result<(), Fail> {
 // all three at once, so it writes them all.
 #[test]
 fn taken_entries_are_written_after_a_stop(rt: HostRuntime) -> Result<(), Fail> {
-    let scene = Scene {
-        held: Held::Log,
+    let scene = TwoSeats {
+        held: HeldDevice::Log,
         sector: 1,
         passes: 0,
         before: 2,
-        calls: (Call::Flush, Call::GiveUp),
+        calls: (WorkCall::Flush, WorkCall::GiveUp),
         tallies: (tally(3, 0, 0), tally(1, 0, 0)),
         status: Status {
             end: Some(End::Memory),
             ..goes_on(3, 5)
         },
     };
-    assert!(rt; gated(&rt, rt.alloc(), scene));
+    assert!(rt; behind_barrier(&rt, rt.alloc(), scene));
     Ok(())
 }
 
 // Logging is stopped while the device holds a FUA write. The seat doesn't wait for the log then.
 #[test]
 fn a_write_is_let_go_after_a_stop(rt: HostRuntime) -> Result<(), Fail> {
-    let scene = Scene {
-        held: Held::Device,
+    let scene = TwoSeats {
+        held: HeldDevice::Device,
         sector: 1,
         passes: 0,
         before: 0,
         calls: (
-            Call::Write {
+            WorkCall::Write {
                 first: 1,
                 byte: 1,
                 fua: true,
             },
-            Call::GiveUp,
+            WorkCall::GiveUp,
         ),
         tallies: (
-            Tally {
+            WorkTally {
                 not_logged: 1,
                 ..tally(0, 0, 0)
             },
@@ -272,7 +276,7 @@ fn a_write_is_let_go_after_a_stop(rt: HostRuntime) -> Result<(), Fail> {
             ..goes_on(0, 0)
         },
     };
-    assert!(rt; gated(&rt, rt.alloc(), scene));
+    assert!(rt; behind_barrier(&rt, rt.alloc(), scene));
     Ok(())
 }
 
@@ -280,29 +284,29 @@ fn a_write_is_let_go_after_a_stop(rt: HostRuntime) -> Result<(), Fail> {
 // on.
 #[test]
 fn a_close_is_busy_while_a_request_is_open(rt: HostRuntime) -> Result<(), Fail> {
-    let scene = Scene {
-        held: Held::Device,
+    let scene = TwoSeats {
+        held: HeldDevice::Device,
         sector: 1,
         passes: 0,
         before: 0,
         calls: (
-            Call::Write {
+            WorkCall::Write {
                 first: 1,
                 byte: 1,
                 fua: false,
             },
-            Call::AskClose,
+            WorkCall::AskClose,
         ),
         tallies: (
             tally(1, 0, 0),
-            Tally {
+            WorkTally {
                 refused: 1,
                 ..tally(0, 0, 0)
             },
         ),
         status: goes_on(2, 3),
     };
-    assert!(rt; gated(&rt, rt.alloc(), scene));
+    assert!(rt; behind_barrier(&rt, rt.alloc(), scene));
     Ok(())
 }
 
@@ -310,14 +314,14 @@ fn a_close_is_busy_while_a_request_is_open(rt: HostRuntime) -> Result<(), Fail> 
 // is answered.
 #[test]
 fn a_write_is_answered_while_a_mark_is_made_sure(rt: HostRuntime) -> Result<(), Fail> {
-    let scene = Scene {
-        held: Held::Log,
+    let scene = TwoSeats {
+        held: HeldDevice::Log,
         sector: 0,
         passes: 1,
         before: 0,
         calls: (
-            Call::Mark { byte: 1 },
-            Call::Write {
+            WorkCall::Mark { byte: 1 },
+            WorkCall::Write {
                 first: 1,
                 byte: 1,
                 fua: false,
@@ -326,7 +330,7 @@ fn a_write_is_answered_while_a_mark_is_made_sure(rt: HostRuntime) -> Result<(), 
         tallies: (tally(0, 1, 0), tally(1, 0, 0)),
         status: goes_on(3, 4),
     };
-    assert!(rt; gated(&rt, rt.alloc(), scene));
+    assert!(rt; behind_barrier(&rt, rt.alloc(), scene));
     Ok(())
 }
 
@@ -334,18 +338,18 @@ fn a_write_is_answered_while_a_mark_is_made_sure(rt: HostRuntime) -> Result<(), 
 // write is answered.
 #[test]
 fn a_write_is_answered_while_a_fua_write_is_made_sure(rt: HostRuntime) -> Result<(), Fail> {
-    let scene = Scene {
-        held: Held::Log,
+    let scene = TwoSeats {
+        held: HeldDevice::Log,
         sector: 0,
         passes: 1,
         before: 0,
         calls: (
-            Call::Write {
+            WorkCall::Write {
                 first: 2,
                 byte: 1,
                 fua: true,
             },
-            Call::Write {
+            WorkCall::Write {
                 first: 1,
                 byte: 1,
                 fua: false,
@@ -354,30 +358,30 @@ fn a_write_is_answered_while_a_fua_write_is_made_sure(rt: HostRuntime) -> Result
         tallies: (tally(0, 1, 0), tally(1, 0, 0)),
         status: goes_on(3, 5),
     };
-    assert!(rt; gated(&rt, rt.alloc(), scene));
+    assert!(rt; behind_barrier(&rt, rt.alloc(), scene));
     Ok(())
 }
 
 // The device holds one seat's write until another seat's mark is answered.
 #[test]
 fn a_mark_is_answered_while_the_device_writes(rt: HostRuntime) -> Result<(), Fail> {
-    let scene = Scene {
-        held: Held::Device,
+    let scene = TwoSeats {
+        held: HeldDevice::Device,
         sector: 1,
         passes: 0,
         before: 0,
         calls: (
-            Call::Write {
+            WorkCall::Write {
                 first: 1,
                 byte: 1,
                 fua: false,
             },
-            Call::Mark { byte: 1 },
+            WorkCall::Mark { byte: 1 },
         ),
         tallies: (tally(1, 0, 0), tally(0, 1, 0)),
         status: goes_on(3, 4),
     };
-    assert!(rt; gated(&rt, rt.alloc(), scene));
+    assert!(rt; behind_barrier(&rt, rt.alloc(), scene));
     Ok(())
 }
 
@@ -387,8 +391,8 @@ fn small_log<H: Threads + Wait + Clock + Print + Sync + Send + Copy + Drop + Abo
     rt: &H,
     alloc: Global,
     sectors: u64,
-    call: Call,
-    answer: Tally,
+    call: WorkCall,
+    answer: WorkTally,
     status: Status,
 ) -> bool
     requires { (0 < sectors) × (sectors ≤ 1048576) }
@@ -409,8 +413,8 @@ fn small_log<H: Threads + Wait + Clock + Print + Sync + Send + Copy + Drop + Abo
 // A log of two sectors has no room for a mark.
 #[test]
 fn one_seat_finds_no_room_for_a_mark(rt: HostRuntime) -> Result<(), Fail> {
-    let mark = Call::Mark { byte: 120 };
-    let not_logged = Tally {
+    let mark = WorkCall::Mark { byte: 120 };
+    let not_logged = WorkTally {
         not_logged: 1,
         ..tally(0, 0, 0)
     };
@@ -425,7 +429,7 @@ fn one_seat_finds_no_room_for_a_mark(rt: HostRuntime) -> Result<(), Fail> {
 
 #[test]
 fn one_seat_finds_room_for_a_write_alone(rt: HostRuntime) -> Result<(), Fail> {
-    let write = Call::Write {
+    let write = WorkCall::Write {
         first: 5,
         byte: 65,
         fua: true,
@@ -441,20 +445,20 @@ fn one_seat_finds_room_for_a_write_alone(rt: HostRuntime) -> Result<(), Fail> {
 
 // Returns calls of a seat whose last one is a mark with this id. The calls before it are plain
 // writes and, if the id is odd, a mark that is logged. A write takes two ids.
-fn calls_up_to(rt: &impl Abort, alloc: Global, id: u64) -> Vec<Call> {
+fn calls_up_to(rt: &impl Abort, alloc: Global, id: u64) -> Vec<WorkCall> {
     let mut calls = Vec::new(alloc);
     if id % 2 == 1 {
-        calls.push(Call::Mark { byte: 1 }).expect(rt, "memory");
+        calls.push(WorkCall::Mark { byte: 1 }).expect(rt, "memory");
     }
     for _ in 0..id / 2 {
-        let write = Call::Write {
+        let write = WorkCall::Write {
             first: 1,
             byte: 1,
             fua: false,
         };
         calls.push(write).expect(rt, "memory");
     }
-    calls.push(Call::Mark { byte: 2 }).expect(rt, "memory");
+    calls.push(WorkCall::Mark { byte: 2 }).expect(rt, "memory");
     calls
 }
 
@@ -477,7 +481,7 @@ fn is_released<H: Threads + Wait + Clock + Print + Sync + Send + Copy + Drop + A
     let log = open_disk(rt, alloc, 2 + logged);
     let played = stage(rt, alloc, tables, device, log, 0);
     let found = played.tallies.first().expect(rt, "one tally");
-    let wanted = Tally {
+    let wanted = WorkTally {
         not_logged: 1,
         ..tally(id / 2, logged, 0)
     };
@@ -497,7 +501,7 @@ fn a_mark_with_any_id_is_released(rt: HostRuntime) -> Result<(), Fail> {
 fn failing_log<H: Threads + Wait + Clock + Print + Sync + Abort>(rt: &H, alloc: Global) -> bool {
     let mut tables = Vec::new(alloc);
     tables
-        .push(alone(rt, alloc, Call::Mark { byte: 120 }, None))
+        .push(alone(rt, alloc, WorkCall::Mark { byte: 120 }, None))
         .expect(rt, "memory");
     let device = SectorDisk::new(alloc, FEW).expect(rt, "memory");
     let log = Failing::in_changes(SectorDisk::new(alloc, FEW).expect(rt, "memory"), 1);
@@ -507,7 +511,7 @@ fn failing_log<H: Threads + Wait + Clock + Print + Sync + Abort>(rt: &H, alloc: 
         end,
         ..goes_on(0, 0)
     };
-    let not_logged = Tally {
+    let not_logged = WorkTally {
         not_logged: 1,
         ..tally(0, 0, 0)
     };
@@ -529,10 +533,10 @@ fn a_log_whose_device_fails_ends_by_that(rt: HostRuntime) -> Result<(), Fail> {
 }
 
 // Returns a write, a FUA write, a read, a discard and a flush.
-fn device_calls(rt: &impl Abort, alloc: Global) -> Vec<Call> {
+fn device_calls(rt: &impl Abort, alloc: Global) -> Vec<WorkCall> {
     let mut calls = Vec::new(alloc);
     for fua in [false, true] {
-        let write = Call::Write {
+        let write = WorkCall::Write {
             first: 1,
             byte: 7,
             fua,
@@ -540,10 +544,12 @@ fn device_calls(rt: &impl Abort, alloc: Global) -> Vec<Call> {
         calls.push(write).expect(rt, "memory");
     }
     calls
-        .push(Call::Read { first: 1, byte: 7 })
+        .push(WorkCall::Read { first: 1, byte: 7 })
         .expect(rt, "memory");
-    calls.push(Call::Discard { first: 1 }).expect(rt, "memory");
-    calls.push(Call::Flush).expect(rt, "memory");
+    calls
+        .push(WorkCall::Discard { first: 1 })
+        .expect(rt, "memory");
+    calls.push(WorkCall::Flush).expect(rt, "memory");
     calls
 }
 
@@ -561,7 +567,7 @@ fn failing_device<H: Threads + Wait + Clock + Print + Sync + Abort>(rt: &H, allo
     let log = SectorDisk::new(alloc, FEW).expect(rt, "memory");
     let played = stage(rt, alloc, tables, device, log, 0);
     let found = played.tallies.first().expect(rt, "one tally");
-    let failed = Tally {
+    let failed = WorkTally {
         failed: 10,
         ..tally(0, 0, 0)
     };

@@ -1,9 +1,9 @@
 //! Tests of how threads are woken. The writer sleeps when logging is given up. Two seats wait in one
 //! row of receipts when logging ends, and when both of their entries are settled.
-use crate::gate::{Gate, Sign};
-use crate::play::{Played, Table};
+use crate::barrier::{Barrier, Sign};
+use crate::play::{PlayResults, Table};
 use crate::scenes::{after_writes, alone, open_disk, stage, tally};
-use crate::work::{Call, Tally};
+use crate::work::{WorkCall, WorkTally};
 use blockdev::BlockDev;
 use sector_disk::SectorDisk;
 use std::alloc::Global;
@@ -33,8 +33,8 @@ const BESIDE: u64 = 62;
 const TRIES: u64 = 20;
 
 // Returns a write of one sector.
-fn write(fua: bool) -> Call {
-    Call::Write {
+fn write(fua: bool) -> WorkCall {
+    WorkCall::Write {
         first: 1,
         byte: 1,
         fua,
@@ -42,12 +42,16 @@ fn write(fua: bool) -> Call {
 }
 
 // Returns a pause that begins once this many calls, itself included, were begun.
-fn pause(begun: u64) -> Call {
-    Call::Pause { begun }
+fn pause(begun: u64) -> WorkCall {
+    WorkCall::Pause { begun }
 }
 
 // Returns whether each seat had its answers.
-fn are_answered<const N: usize>(rt: &impl Print, found: &[Tally], wanted: &[Tally; N]) -> bool {
+fn are_answered<const N: usize>(
+    rt: &impl Print,
+    found: &[WorkTally],
+    wanted: &[WorkTally; N],
+) -> bool {
     let mut are = is_same(rt, &found.len(), &wanted.len(), "seats");
     for (one, other) in found.iter().zip(wanted) {
         are = is_same(rt, one, other, "a seat's answers") && are;
@@ -65,24 +69,28 @@ fn wakes_writer<H: Threads + Wait + Clock + Print + Sync + Send + Copy + Drop + 
     let sign = Sign::new(alloc).expect(rt, "memory");
     let tables = vec![in alloc;
         Table {
-            calls: vec![in alloc; Call::Mark { byte: 1 }, write(false)].expect(rt, "memory"),
+            calls: vec![in alloc; WorkCall::Mark { byte: 1 }, write(false)].expect(rt, "memory"),
             late: Vec::new(alloc),
             after: None,
         },
         Table {
-            calls: vec![in alloc; pause(0), Call::AskClose, Call::GiveUp, Call::AwaitWriter].expect(
-                rt, "memory"
-            ),
+            calls: vec![in alloc;
+                pause(0),
+                WorkCall::AskClose,
+                WorkCall::GiveUp,
+                WorkCall::AwaitWriter
+            ]
+            .expect(rt, "memory"),
             late: Vec::new(alloc),
             after: Some(sign.again().expect(rt, "memory")),
         },
     ]
     .expect(rt, "memory");
     let disk = SectorDisk::new(alloc, FEW).expect(rt, "memory");
-    let device = Gate::holding(disk, *rt, sign, 1, 0);
+    let device = Barrier::holding(disk, *rt, sign, 1, 0);
     let log = open_disk(rt, alloc, FEW);
     let played = stage(rt, alloc, tables, device, log, 0);
-    let asker = Tally {
+    let asker = WorkTally {
         refused: 1,
         ..tally(3, 0, 0)
     };
@@ -100,8 +108,8 @@ fn a_sleeping_writer_ends_when_logging_is_given_up(rt: HostRuntime) -> Result<()
 fn two_wait<
     L: BlockDev + Drop + Send,
     H: Threads + Wait + Clock + Sync + Send + Copy + Drop + Abort,
->(rt: &H, alloc: Global, log: Gate<L, H>, sign: Sign) -> Played<SectorDisk, Gate<L, H>> {
-    let mark = Call::Mark { byte: 1 };
+>(rt: &H, alloc: Global, log: Barrier<L, H>, sign: Sign) -> PlayResults<SectorDisk, Barrier<L, H>> {
+    let mark = WorkCall::Mark { byte: 1 };
     let other = sign.again().expect(rt, "memory");
     let tables = vec![in alloc;
         alone(rt, alloc, write(true), None),
@@ -124,13 +132,13 @@ fn both_are_released<H: Threads + Wait + Clock + Print + Sync + Send + Copy + Dr
 ) -> bool {
     let sign = Sign::new(alloc).expect(rt, "memory");
     let disk = Failing::in_changes(SectorDisk::new(alloc, FEW).expect(rt, "memory"), 1);
-    let log = Gate::holding(disk, *rt, sign.again().expect(rt, "memory"), 1, 0);
+    let log = Barrier::holding(disk, *rt, sign.again().expect(rt, "memory"), 1, 0);
     let played = two_wait(rt, alloc, log, sign);
-    let not_logged = Tally {
+    let not_logged = WorkTally {
         not_logged: 1,
         ..tally(0, 0, 0)
     };
-    let marker = Tally {
+    let marker = WorkTally {
         done: BETWEEN,
         ..not_logged
     };
@@ -151,7 +159,7 @@ fn both_are_logged<H: Threads + Wait + Clock + Print + Sync + Send + Copy + Drop
 ) -> bool {
     let sign = Sign::new(alloc).expect(rt, "memory");
     let disk = SectorDisk::new(alloc, FEW).expect(rt, "memory");
-    let log = Gate::holding(disk, *rt, sign.again().expect(rt, "memory"), 1, 0);
+    let log = Barrier::holding(disk, *rt, sign.again().expect(rt, "memory"), 1, 0);
     let played = two_wait(rt, alloc, log, sign);
     let wanted = [tally(0, 1, 0), tally(BETWEEN, 1, 0), tally(1, 0, 0)];
     are_answered(rt, played.tallies.as_slice(), &wanted)
@@ -178,23 +186,23 @@ fn are_each_woken<H: Threads + Wait + Clock + Print + Sync + Send + Copy + Drop 
     let entry_sign = Sign::new(alloc).expect(rt, "memory");
     let mark_sign = Sign::new(alloc).expect(rt, "memory");
     let disk = SectorDisk::new(alloc, FEW).expect(rt, "memory");
-    let device = Gate::holding(disk, *rt, write_sign.again().expect(rt, "memory"), 1, 0);
+    let device = Barrier::holding(disk, *rt, write_sign.again().expect(rt, "memory"), 1, 0);
     let disk = SectorDisk::new(alloc, FEW).expect(rt, "memory");
-    let log = Gate::holding(
+    let log = Barrier::holding(
         disk,
         *rt,
         entry_sign.again().expect(rt, "memory"),
         BESIDE + 1,
         0,
     );
-    let log = Gate::holding(
+    let log = Barrier::holding(
         log,
         *rt,
         mark_sign.again().expect(rt, "memory"),
         BESIDE + 3,
         0,
     );
-    let mark = Call::Mark { byte: 1 };
+    let mark = WorkCall::Mark { byte: 1 };
     let again = entry_sign.again().expect(rt, "memory");
     let tables = vec![in alloc;
         alone(rt, alloc, write(true), None),

@@ -1,6 +1,6 @@
 //! The calls that a thread makes at its seat: a table of calls, and a tally of their answers.
+use crate::barrier::Sign;
 use crate::course::Course;
-use crate::gate::Sign;
 use bio::{Bio, Bytes, DevError, Ms};
 use blockdev::BlockDev;
 use board::Names;
@@ -18,7 +18,7 @@ const PAUSE: u64 = 20;
 
 /// A call of a seat. A write fills one sector with `byte`. A read of a sector must find `byte`.
 #[derive(Clone, Copy, Debug, PartialEq, Eq)]
-pub enum Call {
+pub enum WorkCall {
     Write { first: u64, byte: u8, fua: bool },
     Read { first: u64, byte: u8 },
     Flush,
@@ -39,7 +39,7 @@ pub enum Call {
 
 /// How many calls had each answer.
 #[derive(Clone, Copy, Debug, PartialEq, Eq)]
-pub struct Tally {
+pub struct WorkTally {
     pub done: u64,
     pub logged: u64,
     pub failed: u64,
@@ -51,9 +51,9 @@ pub struct Tally {
     pub found: u64,
 }
 
-impl Tally {
-    pub fn new() -> Tally {
-        Tally {
+impl WorkTally {
+    pub fn new() -> WorkTally {
+        WorkTally {
             done: 0,
             logged: 0,
             failed: 0,
@@ -72,28 +72,28 @@ fn count(number: &mut u64) {
 
 /// A seat, with the tally of its calls and its receipts.
 #[derive(Drop)]
-pub struct Player<R: Run + Names> {
+pub struct SeatPlayer<R: Run + Names> {
     pub seat: Seat<R>,
-    pub tally: Tally,
+    pub tally: WorkTally,
     pub receipts: Vec<Receipt<R>>,
 }
 
 /// A seat with its calls.
 #[derive(Drop)]
-pub struct Work<R: Run + Names> {
-    pub player: Player<R>,
+pub struct SeatWork<R: Run + Names> {
+    pub player: SeatPlayer<R>,
     /// The calls before `ask_close`.
-    pub calls: Vec<Call>,
+    pub calls: Vec<WorkCall>,
     /// The calls after `ask_close`.
-    pub late: Vec<Call>,
-    /// The sign of a gate. The seat waits until the gate holds a call, makes its own calls, and
-    /// then releases the held call.
+    pub late: Vec<WorkCall>,
+    /// The sign of a barrier. The seat waits until the barrier holds a call, makes its own calls,
+    /// and then releases the held call.
     pub after: Option<Sign>,
-    /// Whether the gate was still holding the call when it was released.
+    /// Whether the barrier was still holding the call when it was released.
     pub let_go: bool,
 }
 
-impl<R: Run + Names> Work<R> {
+impl<R: Run + Names> SeatWork<R> {
     /// Makes the calls in order, or the late calls if `late`.
     pub fn run<D: BlockDev + Drop, L: BlockDev + Drop, H: Wait + Clock>(
         &mut self,
@@ -119,7 +119,7 @@ impl<R: Run + Names> Work<R> {
     }
 }
 
-impl<R: Run + Names> Player<R> {
+impl<R: Run + Names> SeatPlayer<R> {
     // Makes the calls in order.
     fn make_all<D: BlockDev + Drop, L: BlockDev + Drop, H: Wait + Clock>(
         &mut self,
@@ -127,7 +127,7 @@ impl<R: Run + Names> Player<R> {
         alloc: Global,
         recorder: &Shared<D, L, R>,
         course: &Course,
-        calls: &[Call],
+        calls: &[WorkCall],
     ) {
         for place in 0..calls.len() {
             self.make(rt, alloc, recorder, course, calls[place]);
@@ -142,31 +142,31 @@ impl<R: Run + Names> Player<R> {
         alloc: Global,
         recorder: &Shared<D, L, R>,
         course: &Course,
-        call: Call,
+        call: WorkCall,
     ) {
         course.begin_call();
         match call {
-            Call::Mark { byte } => {
+            WorkCall::Mark { byte } => {
                 let answer = recorder.mark(rt, &mut self.seat, &[byte]);
                 self.count_mark(answer);
                 return;
             }
-            Call::AskClose => {
+            WorkCall::AskClose => {
                 self.count_asked(recorder.ask_close(rt));
                 return;
             }
-            Call::GiveUp => {
+            WorkCall::GiveUp => {
                 recorder.give_up(rt);
                 count(&mut self.tally.done);
                 return;
             }
-            Call::Pause { begun } => {
+            WorkCall::Pause { begun } => {
                 course.await_calls(rt, begun);
                 sleep(rt, Duration::from_millis(PAUSE));
                 count(&mut self.tally.done);
                 return;
             }
-            Call::AwaitWriter => {
+            WorkCall::AwaitWriter => {
                 self.count_end(course.await_writer(rt));
                 return;
             }
@@ -198,7 +198,6 @@ impl<R: Run + Names> Player<R> {
         }
     }
 
-    // Counts the answer to a mark.
     fn count_mark(&mut self, answer: MarkAnswer<Receipt<R>>) {
         match answer {
             MarkAnswer::Logged(receipt) => {
@@ -211,7 +210,7 @@ impl<R: Run + Names> Player<R> {
     }
 
     // Counts the answer to a request.
-    fn count_answer(&mut self, call: Call, answer: Answer<Receipt<R>>) {
+    fn count_answer(&mut self, call: WorkCall, answer: Answer<Receipt<R>>) {
         match answer {
             Answer::Done => count(&mut self.tally.done),
             Answer::Read(bytes) => {
@@ -232,30 +231,31 @@ impl<R: Run + Names> Player<R> {
 }
 
 // Returns whether a read returned one sector filled with the expected byte.
-fn is_filled(bytes: &[u8], call: Call) -> bool {
+fn is_filled(bytes: &[u8], call: WorkCall) -> bool {
     match call {
-        Call::Read { byte, .. } => bytes.len() == 512 && bytes.iter().all(|&found| found == byte),
+        WorkCall::Read { byte, .. } => bytes.len() == 512
+            && bytes.iter().all(|&found| found == byte),
         _ => false,
     }
 }
 
 // Returns the request of a call; a flush for a call without a request.
-fn bio_of(alloc: Global, call: Call) -> Result<Bio, AllocError> {
+fn bio_of(alloc: Global, call: WorkCall) -> Result<Bio, AllocError> {
     Ok(match call {
-        Call::Write { first, byte, fua } => Bio::Write {
+        WorkCall::Write { first, byte, fua } => Bio::Write {
             first,
             bytes: Bytes::from_vec(vec![in alloc; byte; 512]?),
             flush: false,
             fua,
             meta: false,
         },
-        Call::Read { first, .. } => Bio::Read { first, count: 1 },
-        Call::Discard { first } => Bio::Discard { first, count: 1 },
-        Call::Flush
-        | Call::Mark { .. }
-        | Call::AskClose
-        | Call::GiveUp
-        | Call::Pause { .. }
-        | Call::AwaitWriter => Bio::Flush,
+        WorkCall::Read { first, .. } => Bio::Read { first, count: 1 },
+        WorkCall::Discard { first } => Bio::Discard { first, count: 1 },
+        WorkCall::Flush
+        | WorkCall::Mark { .. }
+        | WorkCall::AskClose
+        | WorkCall::GiveUp
+        | WorkCall::Pause { .. }
+        | WorkCall::AwaitWriter => Bio::Flush,
     })
 }

@@ -128,16 +128,16 @@ fn send<D: Message + Drop>(
 
 // The sectors and the byte of a call, and whether it has FUA. A byte has two hexadecimal digits.
 #[derive(Drop)]
-struct Range {
+struct SectorRange {
     first: u64,
     count: u64,
     byte: u8,
     is_fua: bool,
 }
 
-impl Range {
+impl SectorRange {
     // Returns the range of these words, with 0 for each missing number.
-    fn of(words: &str) -> Range {
+    fn of(words: &str) -> SectorRange {
         let mut words = words.split(' ');
         let first = words.next().unwrap_or_default().parse::<u64>().unwrap_or(0);
         let count = words.next().unwrap_or_default().parse::<u64>().unwrap_or(0);
@@ -146,7 +146,7 @@ impl Range {
             _ => 0,
         };
         let is_fua = words.next() == Some("fua");
-        Range {
+        SectorRange {
             first,
             count,
             byte,
@@ -169,7 +169,7 @@ fn ask_at<D: BlockDev + Drop>(
     if kind == "flush" {
         return tell_end(device.flush(now), shown);
     }
-    let range = Range::of(rest);
+    let range = SectorRange::of(rest);
     let sectors = device.sectors();
     if range.count == 0
         || range.count > MAX_SECTORS

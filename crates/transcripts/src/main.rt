@@ -23,7 +23,7 @@ mod transcript;
 
 use crate::scene::Scene;
 use crate::series::Report;
-use crate::tally::Tally;
+use crate::tally::CommandTally;
 use dmlw_files::{HostFiles, read_text};
 use std::process::ExitCode;
 use std::sync::Wait;
@@ -34,7 +34,7 @@ fn main(rt: HostRuntime) -> io::Result<ExitCode> {
     let words: Vec<String> = env::args(&rt)?.collect(rt.alloc())?;
     let is_again = words.get(1).is_some_and(|word| word.as_str() == "again");
     let first = if is_again { 2 } else { 1 };
-    let mut all = Tally::new();
+    let mut all = CommandTally::new();
     let mut report = Report::new(rt.alloc());
     for name in words.iter().skip(first) {
         let name = name.as_str();
@@ -70,7 +70,7 @@ fn run<R: AllocGlobal + Threads + Wait + Sync>(
     name: &str,
     text: &str,
     is_again: bool,
-    all: &mut Tally,
+    all: &mut CommandTally,
 ) -> io::Result<String> {
     let mut scene = Scene::new(rt, rt.alloc());
     run_in(rt, name, text, is_again, &mut scene, all)
@@ -83,9 +83,9 @@ fn run_in<R: AllocGlobal + Threads + Wait + Sync>(
     text: &str,
     is_again: bool,
     scene: &mut Scene<'_, R>,
-    all: &mut Tally,
+    all: &mut CommandTally,
 ) -> io::Result<String> {
-    let mut here = Tally::new();
+    let mut here = CommandTally::new();
     let mut shown = transcript::run(rt.alloc(), text, is_again, scene, &mut here)?;
     if !is_again {
         shown.push_str(format!(in rt.alloc(); "{name}: {here}\n")?.as_str())?;

@@ -20,7 +20,6 @@ use std::alloc::{AllocError, Global};
 use std::sync::Wait;
 use std::thread::Threads;
 
-/// Runs the series `name`.
 pub(crate) fn run<H: Threads + Wait + Sync>(
     rt: &H,
     alloc: Global,

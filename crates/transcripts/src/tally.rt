@@ -3,15 +3,15 @@ use std::fmt;
 
 /// How many commands ran, and how many of them printed another output than expected.
 #[derive(Drop)]
-pub struct Tally {
+pub struct CommandTally {
     commands: u64,
     differ: u64,
 }
 
-impl Tally {
+impl CommandTally {
     /// Returns counts of 0.
-    pub fn new() -> Tally {
-        Tally {
+    pub fn new() -> CommandTally {
+        CommandTally {
             commands: 0,
             differ: 0,
         }
@@ -26,7 +26,7 @@ impl Tally {
     }
 
     /// Adds the counts of another tally.
-    pub fn add(&mut self, other: &Tally) {
+    pub fn add(&mut self, other: &CommandTally) {
         self.commands = self.commands.saturating_add(other.commands);
         self.differ = self.differ.saturating_add(other.differ);
     }
@@ -37,7 +37,7 @@ impl Tally {
     }
 }
 
-impl fmt::Display for Tally {
+impl fmt::Display for CommandTally {
     fn fmt<W: fmt::Write>(&self, f: &mut fmt::Formatter<W>) -> fmt::Result {
         let commands = self.commands;
         let differ = self.differ;

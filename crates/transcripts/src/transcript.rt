@@ -1,28 +1,27 @@
 // Runs a transcript, line by line.
 use crate::scene::Scene;
-use crate::tally::Tally;
+use crate::tally::CommandTally;
 use std::alloc::{AllocError, Global};
 use std::sync::Wait;
 use std::thread::Threads;
 
 // A command with its input, and its expected output.
 #[derive(Drop)]
-struct Step {
+struct CommandRun {
     command: String,
     given: String,
     wanted: String,
 }
 
-impl Step {
-    fn new(alloc: Global) -> Step {
-        Step {
+impl CommandRun {
+    fn new(alloc: Global) -> CommandRun {
+        CommandRun {
             command: String::new(alloc),
             given: String::new(alloc),
             wanted: String::new(alloc),
         }
     }
 
-    // Begins a command.
     fn begin(&mut self, command: &str) -> Result<(), AllocError> {
         self.command.push_str(command)?;
         Ok(())
@@ -38,7 +37,7 @@ impl Step {
 
 // What is printed for a transcript, and whether that is the whole transcript.
 #[derive(Drop)]
-struct Report {
+struct Transcribed {
     text: String,
     is_again: bool,
 }
@@ -51,9 +50,9 @@ pub fn run<H: Threads + Wait + Sync>(
     text: &str,
     is_again: bool,
     scene: &mut Scene<'_, H>,
-    tally: &mut Tally,
+    tally: &mut CommandTally,
 ) -> Result<String, AllocError> {
-    let mut report = Report {
+    let mut report = Transcribed {
         text: String::new(alloc),
         is_again,
     };
@@ -65,21 +64,21 @@ pub fn run<H: Threads + Wait + Sync>(
 fn run_steps<H: Threads + Wait + Sync>(
     alloc: Global,
     text: &str,
-    report: &mut Report,
+    report: &mut Transcribed,
     scene: &mut Scene<'_, H>,
-    tally: &mut Tally,
+    tally: &mut CommandTally,
 ) -> Result<(), AllocError> {
-    let mut step = Step::new(alloc);
+    let mut step = CommandRun::new(alloc);
     go_through(text, &mut step, report, scene, tally)
 }
 
 // Goes through the lines of a transcript.
 fn go_through<H: Threads + Wait + Sync>(
     text: &str,
-    step: &mut Step,
-    report: &mut Report,
+    step: &mut CommandRun,
+    report: &mut Transcribed,
     scene: &mut Scene<'_, H>,
-    tally: &mut Tally,
+    tally: &mut CommandTally,
 ) -> Result<(), AllocError> {
     let text = text.strip_suffix("\n").unwrap_or(text);
     for line in text.split('\n') {
@@ -91,10 +90,10 @@ fn go_through<H: Threads + Wait + Sync>(
 // Takes one line: a command, its input, its expected output, or prose.
 fn take_line<H: Threads + Wait + Sync>(
     line: &str,
-    step: &mut Step,
-    report: &mut Report,
+    step: &mut CommandRun,
+    report: &mut Transcribed,
     scene: &mut Scene<'_, H>,
-    tally: &mut Tally,
+    tally: &mut CommandTally,
 ) -> Result<(), AllocError> {
     if let Some(command) = line.strip_prefix("  $ ") {
         end_step(step, report, scene, tally)?;
@@ -114,10 +113,10 @@ fn take_line<H: Threads + Wait + Sync>(
 
 // Runs the last command now that all its lines were taken, and notes its output.
 fn end_step<H: Threads + Wait + Sync>(
-    step: &mut Step,
-    report: &mut Report,
+    step: &mut CommandRun,
+    report: &mut Transcribed,
     scene: &mut Scene<'_, H>,
-    tally: &mut Tally,
+    tally: &mut CommandTally,
 ) -> Result<(), AllocError> {
     if step.command.is_empty() {
         return Ok(());
@@ -142,7 +141,7 @@ fn tell_difference(text: &mut String, command: &str, shown: &str) -> Result<(), 
 }
 
 // Appends a line of the transcript if the whole transcript is printed.
-fn copy_line(line: &str, report: &mut Report) -> Result<(), AllocError> {
+fn copy_line(line: &str, report: &mut Transcribed) -> Result<(), AllocError> {
     if report.is_again {
         push_line(&mut report.text, line)?;
     }

@@ -16,7 +16,7 @@ use Rattle.bio.specs.RequestLaws.{covers-parts}
 use Rattle.bio.specs.Requests.{first_sector, sector_count}
 use Rattle.world.specs.declared.step.Step.{Step}
 use Rattle.world.specs.declared.step.Step.TheVariants.{End}
-use Rattle.world.specs.Machine.{before_submit, call_of, calls_below, each_sector, is_among, is_end}
+use Rattle.world.specs.Machine.{before_submit, event_step, calls_below, each_sector, is_among, is_end}
 use Rattle.world.specs.Machine.{is_submit, with_sector}
 
 abbrev pub is_good_end : ℕ → Step → Bool
@@ -72,21 +72,21 @@ came_append early late (step ∷ front) calls h =
     grind (arith, came_append early late front calls h, or_second)
 
 pub any_call : (test : Step → Bool) (events : List CoreEvent) (n k : ℕ) (step : Step) → k < n
-    → call_of k (slice_get events k) ≡ step ∷ []
+    → event_step k (slice_get events k) ≡ step ∷ []
     → test step ≡ true → list_any test (calls_below events n) ≡ true
 any_call test events zero k step h is passes = absurd (omega arith)
 any_call test events (suc n) k step h is passes = elim (last_or_below k n h) [
   | inl same ↦
       grind (arith, list_any-append, false)
   | inr below ↦
-      list_any-append test (call_of n (slice_get events n)) (calls_below events n)
-      ∙ or_second (list_any test (call_of n (slice_get events n)))
+      list_any-append test (event_step n (slice_get events n)) (calls_below events n)
+      ∙ or_second (list_any test (event_step n (slice_get events n)))
       (list_any test (calls_below events n)) (any_call test events n k step below is passes)
 ]
 
 pub calls_before : (early late : Step → Bool) (events : List CoreEvent) (n k j : ℕ)
     (first second : Step) → k < j → j < n
-    → call_of k (slice_get events k) ≡ first ∷ [] → call_of j (slice_get events j) ≡ second ∷ []
+    → event_step k (slice_get events k) ≡ first ∷ [] → event_step j (slice_get events j) ≡ second ∷ []
     → early first ≡ true → late second ≡ true → came_before early late (calls_below events n) ≡ true
 calls_before early late events zero k j first second order h is_first is_second passes_first
     passes_second = absurd (omega arith)
@@ -95,7 +95,7 @@ calls_before early late events (suc n) k j first second order h is_first is_seco
       | inl same ↦
           grind (arith, any_call)
       | inr below ↦
-          came_append early late (call_of n (slice_get events n)) (calls_below events n)
+          came_append early late (event_step n (slice_get events n)) (calls_below events n)
           (calls_before early late events n k j first second order below is_first
           is_second passes_first
           passes_second)
@@ -103,12 +103,12 @@ calls_before early late events (suc n) k j first second order h is_first is_seco
 
 call_from : (test : Step → Bool) (events : List CoreEvent) (n : ℕ)
     → list_any test (calls_below events n) ≡ true
-    → (k : ℕ) × (k < n) × (list_any test (call_of k (slice_get events k)) ≡ true)
+    → (k : ℕ) × (k < n) × (list_any test (event_step k (slice_get events k)) ≡ true)
 call_from test events zero h = cc
 call_from test events (suc n) h =
-    elim (or_cases (list_any test (call_of n (slice_get events n)))
+    elim (or_cases (list_any test (event_step n (slice_get events n)))
     (list_any test (calls_below events n))
-    (sym (list_any-append test (call_of n (slice_get events n)) (calls_below events n)) ∙ h)) [
+    (sym (list_any-append test (event_step n (slice_get events n)) (calls_below events n)) ∙ h)) [
       | inl here ↦ (n, omega arith, here)
       | inr there ↦
           grind (arith, call_from test events n there)
@@ -119,13 +119,13 @@ first_of_two true h = refl
 first_of_two false h = cc
 
 submit_call : (id k : ℕ) (event : Option CoreEvent)
-    → list_any (is_submit id) (call_of k event) ≡ true
+    → list_any (is_submit id) (event_step k event) ≡ true
     → (bio : Bio) × (k ≡ id) × (event ≡ Some (core_events.Submit bio))
 submit_call id k (Some (core_events.Submit bio)) h =
     (bio, eqb-true k id (first_of_two (k == id) h), refl)
 submit_call id k other h = cc
 
-end_call : (id k : ℕ) (event : Option CoreEvent) → list_any (is_end id) (call_of k event) ≡ true
+end_call : (id k : ℕ) (event : Option CoreEvent) → list_any (is_end id) (event_step k event) ≡ true
     → (ok : Bool) × (event ≡ Some (core_events.Complete id ok))
 end_call id k (Some (core_events.Submit bio)) h = cc
 end_call id k (Some (core_events.Complete ended ok)) h = (
@@ -151,7 +151,7 @@ pub end_from : (events : List CoreEvent) (n id : ℕ)
 end_from events n id h = grind (arith, call_from, end_call)
 
 other_submit : (id k : ℕ) (event : Option CoreEvent) (calls : List Step) → (k ≡ id → ⊥)
-    → before_submit id (call_of k event ++ calls) ≡ before_submit id calls
+    → before_submit id (event_step k event ++ calls) ≡ before_submit id calls
 other_submit id k (Some (core_events.Submit bio)) calls differ = grind (arith, differ-eqb)
 other_submit id k other calls differ = refl
 
@@ -168,7 +168,7 @@ before_submit_at events (suc n) id bio h is = elim (last_or_below id n h) [
 ]
 
 pub all_calls : (test : Step → Bool) (events : List CoreEvent) (n : ℕ)
-    → ((k : ℕ) → k < n → list_all test (call_of k (slice_get events k)) ≡ true)
+    → ((k : ℕ) → k < n → list_all test (event_step k (slice_get events k)) ≡ true)
     → list_all test (calls_below events n) ≡ true
 all_calls test events zero each = refl
 all_calls test events (suc n) each =

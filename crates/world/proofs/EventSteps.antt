@@ -22,7 +22,7 @@ use Rattle.bio.specs.Requests.{covers, has_fua, is_tracked}
 use Rattle.judge.specs.Laws.{kept_within}
 use Rattle.world.specs.declared.step.Step.{Step}
 use Rattle.world.specs.declared.step.Step.TheVariants.{Submit, End}
-use Rattle.world.specs.Machine.{Machine, after, before_submit, call_of, calls_below, each_sector}
+use Rattle.world.specs.Machine.{Machine, machine_after, before_submit, event_step, calls_below, each_sector}
 use Rattle.world.specs.Machine.{has_landed, has_settled, has_step, is_among, is_end, is_pending}
 use Rattle.world.specs.Machine.{is_submit, may_succeed, newest, settled_if_ended, start}
 use Rattle.world.specs.inside.{IsChoice, by_sector, is_wanted, lands_early, lands_late, steps_of}
@@ -36,7 +36,7 @@ use Rattle.world.proofs.SectorSteps.{touch_all}
 -- `m` is the machine after the plan's steps for the first `k` events. A wanted request lands only
 -- at its end, and is then the newest that is settled (`only_late`, `late`). If another request ends
 -- with success, it has landed, and if `sure` holds for it, it is settled.
-pub record Follows (events : List CoreEvent) (wanted : ℕ → Option ℕ) (sure : ℕ → ℕ → Bool) (k : ℕ)
+pub record AfterFirstEvents (events : List CoreEvent) (wanted : ℕ → Option ℕ) (sure : ℕ → ℕ → Bool) (k : ℕ)
     (m : Machine) : Type 0 where
   pub calls : m.calls ≡ calls_below events k
   pub on : m.off ≡ false
@@ -56,7 +56,7 @@ pub record Follows (events : List CoreEvent) (wanted : ℕ → Option ℕ) (sure
   pub bare : (sector : ℕ) → wanted sector ≡ None → newest (m.settled sector) ≡ None
 
 pub start_follows : (events : List CoreEvent) (wanted : ℕ → Option ℕ) (sure : ℕ → ℕ → Bool)
-    → Follows events wanted sure zero start
+    → AfterFirstEvents events wanted sure zero start
 start_follows events wanted sure = record {
   calls = refl;
   on = refl;
@@ -132,10 +132,10 @@ each_of test bio tracked each = grind (arith, each_all_below, covers-within)
 pub follow_submit : (events : List CoreEvent) (wanted : ℕ → Option ℕ) (sure : ℕ → ℕ → Bool) (k : ℕ)
     (m : Machine) (bio : Bio)
     → is_well_formed events ≡ true → IsChoice events wanted sure
-    → slice_get events k ≡ Some (core_events.Submit bio) → Follows events wanted sure k m
+    → slice_get events k ≡ Some (core_events.Submit bio) → AfterFirstEvents events wanted sure k m
     → (new : Machine) × StepsFrame events m
     (steps_of events wanted sure k (Some (core_events.Submit bio))) new
-    × Follows events wanted sure (suc k) new
+    × AfterFirstEvents events wanted sure (suc k) new
 follow_submit events wanted sure k m bio well_formed choice is before =
     let tracked =
     (and_parts (is_recording (take k events)) (is_tracked bio)
@@ -154,7 +154,7 @@ follow_submit events wanted sure k m bio well_formed choice is before =
     not_ended events k k well_formed
     (λ place less ends. absurd
     (let end = end_found events k place ends in let later = end.later in omega arith)) in
-    let submitted = after m (Submit k) in
+    let submitted = machine_after m (Submit k) in
     let may : has_step events m (Submit k) ≡ true =
     grind (arith, not)
     ∙ ap (λ event. is_request event && not (list_any (is_submit k) m.calls)) is
@@ -175,7 +175,7 @@ follow_submit events wanted sure k m bio well_formed choice is before =
     let t = touch.2 in
     let calls : (test : Step → Bool) → test (Submit k) ≡ false →
     list_any test (calls_below events (suc k)) ≡ list_any test (calls_below events k) =
-    λ test fails. ap (λ event. list_any test (call_of k event ++ calls_below events k)) is
+    λ test fails. ap (λ event. list_any test (event_step k event ++ calls_below events k)) is
     ∙ ap (λ b. b || list_any test (calls_below events k)) fails in
     let stays : (sector : ℕ) →
     ((covers bio sector && (lands sector && settles sector)) ≡ true →
@@ -335,7 +335,7 @@ may_end events mid k id ok bio well_formed is submitted tracked less ends calls 
 
     of_event : (place : ℕ) (event : Option CoreEvent) → slice_get events place ≡ event → place < id
         → is_flush_submit (slice_get events id) ≡ true → ended_ok events id ≡ true
-        → list_all (settled_if_ended events mid) (call_of place event) ≡ true
+        → list_all (settled_if_ended events mid) (event_step place event) ≡ true
     of_event place (Some (core_events.Submit other)) there early is_flush end = refl
     of_event place (Some (core_events.Complete other good_one)) there early is_flush end =
         grind (arith, of_end)
@@ -357,10 +357,10 @@ newest_among (first ∷ ids) id is = grind (arith, same_some, eq-eqb)
 pub follow_end : (events : List CoreEvent) (wanted : ℕ → Option ℕ) (sure : ℕ → ℕ → Bool) (k : ℕ)
     (m : Machine) (id : ℕ) (ok : Bool)
     → is_well_formed events ≡ true → IsChoice events wanted sure
-    → slice_get events k ≡ Some (core_events.Complete id ok) → Follows events wanted sure k m
+    → slice_get events k ≡ Some (core_events.Complete id ok) → AfterFirstEvents events wanted sure k m
     → (new : Machine) × StepsFrame events m
     (steps_of events wanted sure k (Some (core_events.Complete id ok))) new
-    × Follows events wanted sure (suc k) new
+    × AfterFirstEvents events wanted sure (suc k) new
 follow_end events wanted sure k m id ok well_formed choice is before =
     let ended = well_formed-end events k id ok well_formed is in
     let bio = ended.bio in
@@ -368,7 +368,7 @@ follow_end events wanted sure k m id ok well_formed choice is before =
     let known : list_any (is_submit id) m.calls ≡ true =
     ap (list_any (is_submit id)) before.calls
     ∙ any_call (is_submit id) events k id (Submit id) ended.earlier
-    (ap (call_of id) ended.submitted) (eq-eqb id id refl) in
+    (ap (event_step id) ended.submitted) (eq-eqb id id refl) in
     let open_yet : list_any (is_end id) (calls_below events k) ≡ false =
     not_ended events k id well_formed
     (λ place less ends. absurd
@@ -412,7 +412,7 @@ follow_end events wanted sure k m id ok well_formed choice is before =
             | inr below ↦
                 let newest_is = before.late sector other chosen
                 (any_call (is_end other) events k place (End other there.ok) below
-                (ap (call_of place) there.event) (eq-eqb other other refl)) in
+                (ap (event_step place) there.event) (eq-eqb other other refl)) in
                 let among = newest_among (m.settled sector) other newest_is in
                 more_settled (covers bio) lands settles id m mid sector other t
                 (before.within sector other among) among
@@ -439,7 +439,7 @@ follow_end events wanted sure k m id ok well_formed choice is before =
     (if_so ok (may_succeed events mid id)
     (may_end events mid k id ok bio well_formed is ended.submitted ended.tracked ended.earlier
     ended.ends calls landed settled)) in
-    let new = after mid (End id ok) in
+    let new = machine_after mid (End id ok) in
     let longer : calls_below events (suc k) ≡ End id ok ∷ calls_below events k =
     grind (arith, is) in
     let still : (other : ℕ) → list_any (is_end other) (calls_below events k) ≡ true →
@@ -526,9 +526,9 @@ follow_end events wanted sure k m id ok well_formed choice is before =
 
 pub follow_other : (events : List CoreEvent) (wanted : ℕ → Option ℕ) (sure : ℕ → ℕ → Bool) (k : ℕ)
     (m : Machine)
-    → call_of k (slice_get events k) ≡ []
+    → event_step k (slice_get events k) ≡ []
     → ((sector : ℕ) → covers_at sector (slice_get events k) ≡ false)
-    → Follows events wanted sure k m → Follows events wanted sure (suc k) m
+    → AfterFirstEvents events wanted sure k m → AfterFirstEvents events wanted sure (suc k) m
 follow_other events wanted sure k m none uncovered before =
     let same : calls_below events (suc k) ≡ calls_below events k =
     rw none in
@@ -560,9 +560,9 @@ follow_other events wanted sure k m none uncovered before =
 follow_event : (events : List CoreEvent) (wanted : ℕ → Option ℕ) (sure : ℕ → ℕ → Bool) (k : ℕ)
     (m : Machine) (event : Option CoreEvent)
     → is_well_formed events ≡ true → IsChoice events wanted sure → slice_get events k ≡ event
-    → Follows events wanted sure k m
+    → AfterFirstEvents events wanted sure k m
     → (new : Machine) × StepsFrame events m (steps_of events wanted sure k event) new
-    × Follows events wanted sure (suc k) new
+    × AfterFirstEvents events wanted sure (suc k) new
 follow_event events wanted sure k m (Some (core_events.Submit bio)) well_formed choice is before =
     follow_submit events wanted sure k m bio well_formed choice is before
 follow_event events wanted sure k m (Some (core_events.Complete id ok)) well_formed choice is
@@ -570,7 +570,7 @@ follow_event events wanted sure k m (Some (core_events.Complete id ok)) well_for
 follow_event events wanted sure k m other well_formed choice is before = (
   m,
   go_none events m,
-  follow_other events wanted sure k m (ap (call_of k) is)
+  follow_other events wanted sure k m (ap (event_step k) is)
       (λ sector. ap (covers_at sector) is) before,
 )
 
@@ -578,7 +578,7 @@ pub follow_all : (events : List CoreEvent) (wanted : ℕ → Option ℕ) (sure :
     → is_well_formed events ≡ true → IsChoice events wanted sure
     → (new : Machine) × StepsFrame events start
     (collect (λ place. steps_of events wanted sure place (slice_get events place)) k) new
-    × Follows events wanted sure k new
+    × AfterFirstEvents events wanted sure k new
 follow_all events wanted sure zero well_formed choice = grind (arith, go_none, start_follows)
 follow_all events wanted sure (suc k) well_formed choice =
     let front = follow_all events wanted sure k well_formed choice in

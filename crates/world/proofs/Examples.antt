@@ -12,7 +12,7 @@ use Rattle.world.specs.declared.step.Step.{Step}
 use Rattle.world.specs.declared.step.Step.TheVariants.{Submit, Land, Destage, End, Power}
 use Rattle.refusals.specs.declared.refusal.Refusal.TheVariants as refusals
 use Rattle.world.specs.declared.step.StepError.TheVariants as step_errors
-use Rattle.world.specs.Cells.{AllSteps, IsFresh, IsRun, Steps, WorldState, empty_cell, put_at}
+use Rattle.world.specs.Cells.{AllSteps, IsFresh, IsRun, StepsWorld, WorldState, empty_cell, put_at}
 use Rattle.world.specs.Texts.{end_text, step_refusal}
 use Rattle.world.specs.Machine.{Leaves, before_submit, calls_below, durable, has_step}
 use Rattle.world.specs.Machine.{newest, start, taken, values_of_id}
@@ -151,20 +151,20 @@ fresh-image : IsFresh (replicate 512 7) (record fresh { image = replicate 512 8 
 fresh-image told = let contra = byte_is 8 7 told.image in absurd (omega arith)
 
 -- power goes, and nothing else changes
-steps-power : Steps [] Power fresh (record fresh { off = true })
+steps-power : StepsWorld [] Power fresh (record fresh { off = true })
 steps-power = grind arith
 
-steps-image : Steps [] Power fresh (record fresh { off = true; image = replicate 512 8 }) → ⊥
+steps-image : StepsWorld [] Power fresh (record fresh { off = true; image = replicate 512 8 }) → ⊥
 steps-image told = let contra = byte_is 8 7 (told.left 0 (omega arith)) in absurd (omega arith)
 
-steps-refused : Steps [] (Submit 0) fresh (record fresh { calls = Submit 0 ∷ [] }) → ⊥
+steps-refused : StepsWorld [] (Submit 0) fresh (record fresh { calls = Submit 0 ∷ [] }) → ⊥
 steps-refused told = let contra : false ≡ true = told.may in cc
 
 -- nor is a sector or a byte added, of a world of no sectors
 abbrev bare : WorldState
 bare = record { cells = []; calls = []; off = false; image = [] }
 
-steps-longer : Steps [] Power bare (record bare { off = true; image = 7 ∷ [] }) → ⊥
+steps-longer : StepsWorld [] Power bare (record bare { off = true; image = 7 ∷ [] }) → ⊥
 steps-longer told = let contra : 1 ≡ 0 = told.size in omega arith
 
 -- no steps leave a world as it was

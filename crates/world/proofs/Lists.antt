@@ -1,4 +1,5 @@
--- Laws of lists that the code keeps oldest first and the specs newest first, and laws of `IsPut`.
+-- Laws of lists that the code keeps oldest first and the specs newest first, and laws of
+-- `PutsSector`.
 use Rattle.std.proofs.Common.{length-append, length-drop, Bool, true, false, ◌&&◌, ◌||◌, Some}
 use Rattle.std.proofs.Common.{List, [], ◌∷◌, ◌++◌, length, append_assoc, take, drop, refl, ap, sym}
 use Rattle.std.proofs.Common.{◌∙◌, arith, ◌≡◌, ℕ, ◌+◌, ◌-◌, ◌*◌, ◌/◌, ◌<◌, ◌≤◌, zero, suc}
@@ -14,7 +15,7 @@ use borrow.Rule.Slice.PartMut.{put_mid}
 use Rattle.bio.specs.Content.{Patch, over, sector_of}
 use Rattle.bio.specs.ContentLaws.{over-after, over-before, over-in}
 use Rattle.bio.specs.Places.{collect}
-use Rattle.world.specs.Cells.{IsPut}
+use Rattle.world.specs.Cells.{PutsSector}
 
 pub any_reverse : {A : Type 0} (test : A → Bool) (xs : List A)
     → list_any test (reverse xs) ≡ list_any test xs
@@ -66,7 +67,7 @@ grown f n next old mid new is before here = cc (append_assoc old (collect f n) (
 
 pub put_outside : (first count : ℕ) (value : ℕ → List ℕ) (at : ℕ) (image : List ℕ)
     → (at < first) ⊎ (first + count ≤ at)
-    → IsPut (over first count value) at image image
+    → PutsSector (over first count value) at image image
 put_outside first count value at image outside = grind (arith, eqb_tells, over-before, over-after)
 
 pub range_value : (first count : ℕ) (value : ℕ → List ℕ) (at place : ℕ) (part : List ℕ)
@@ -124,6 +125,6 @@ sector_here at old part within size =
 pub is_put : (patch : Patch) (at : ℕ) (old part new : List ℕ) → at < length old / 512
     → length part ≡ 512
     → new ≡ put_mid (at * 512) (at * 512 + 512 - at * 512) old part → patch at ≡ Some part
-    → IsPut patch at old new
+    → PutsSector patch at old new
 is_put patch at old part new within size is value =
     grind (arith, length_put, eqb_tells, put_mid, sector_here, cases_lt, sector_before, back_is)

@@ -17,15 +17,15 @@ use Rattle.bio.specs.PlaceLaws.{option_cases, slice_get-within}
 use Rattle.bio.specs.Possible.{covers_at}
 use Rattle.bio.specs.RequestLaws.{covered_value, event_within}
 use Rattle.world.proofs.PossibleChoice.{each_within}
-use Rattle.world.proofs.RunIsPossible.{IsSound, keeps, start_sound}
+use Rattle.world.proofs.RunIsPossible.{IsSoundMachine, keeps, start_sound}
 use Rattle.world.proofs.Calls.{among_new, clash}
-use Rattle.world.specs.Cells.{AllSteps, CellState, IsFresh, IsSameMachine, IsRun, IsPut, Steps}
+use Rattle.world.specs.Cells.{AllSteps, CellState, IsFresh, IsSameMachine, IsRun, PutsSector, StepsWorld}
 use Rattle.world.specs.Cells.{WorldState, empty_cell, landed_of, left_after, landing, machine_in}
 use Rattle.world.specs.Cells.{machine_of, settled_of, settling}
 use Rattle.world.specs.declared.step.Step.{Step}
 use Rattle.world.specs.declared.step.Step.TheVariants.{Land, Destage, End}
 use Rattle.world.specs.inside.{end_settled, is_allowed, succeeds}
-use Rattle.world.specs.Machine.{Machine, after, durable, has_step, is_among, is_pending, is_run}
+use Rattle.world.specs.Machine.{Machine, machine_after, durable, has_step, is_among, is_pending, is_run}
 use Rattle.world.specs.Machine.{may_succeed, may_take, newest, settled_if_ended, start, taken}
 use Rattle.world.specs.Machine.{values_of_id, with_sector}
 
@@ -90,13 +90,13 @@ pub land_steps : (events : List CoreEvent) (id at : ℕ) (old new : WorldState)
     → has_step events (machine_of old) (Land id at) ≡ true
     → at < length old.cells → new
     ≡ record old { cells = set old.cells at (landing id (get_or old.cells at empty_cell)) }
-    → Steps events (Land id at) old new
+    → StepsWorld events (Land id at) old new
 land_steps events id at old new may within is =
     let cell : CellState = get_or old.cells at empty_cell in
     let there = slice_get-get_or old.cells at empty_cell within in
-    subst (Steps events (Land id at) old) (sym is) (record {
+    subst (StepsWorld events (Land id at) old) (sym is) (record {
       may = may;
-      after = record {
+      machine_after = record {
         landed = λ sector.
             grind (arith, set_seen landed_of old.cells at (landing id cell) sector within);
         settled =
@@ -117,15 +117,15 @@ pub destage_steps : (events : List CoreEvent) (at : ℕ) (old new : WorldState)
       cells = set old.cells at (settling (get_or old.cells at empty_cell));
       image = new.image;
     }
-    → IsPut (values_of_id events
+    → PutsSector (values_of_id events
     (newest (landed_of (slice_get old.cells at)))) at old.image new.image
-    → Steps events (Destage at) old new
+    → StepsWorld events (Destage at) old new
 destage_steps events at old new may within size is image =
     let cell : CellState = get_or old.cells at empty_cell in
     let there = slice_get-get_or old.cells at empty_cell within in
-    subst (Steps events (Destage at) old) (sym is) (record {
+    subst (StepsWorld events (Destage at) old) (sym is) (record {
       may = may;
-      after = record {
+      machine_after = record {
         landed =
             λ sector. set_same landed_of old.cells at (settling cell) sector within
             (ap landed_of (sym there));
@@ -170,7 +170,7 @@ like a b same = grind (arith, fun_ext)
 
 -- the newest request has a value for the sector, so the old value there doesn't matter
 put_newest : (events : List CoreEvent) (m : Machine) (at : ℕ) (old first : Content)
-    → IsSound events m → is_some (newest (m.landed at)) ≡ true
+    → IsSoundMachine events m → is_some (newest (m.landed at)) ≡ true
     → put (values_of_id events (newest (m.landed at))) old at
     ≡ put (values_of_id events (newest (m.landed at))) first at
 put_newest events m at old first sound some = of_list (m.landed at) refl
@@ -188,15 +188,15 @@ put_newest events m at old first sound some = of_list (m.landed at) refl
         )
 
 left_durable : (events : List CoreEvent) (m : Machine) (step : Step) (first old : Content)
-    (sector : ℕ) → IsSound events m → may_take events m step ≡ true
+    (sector : ℕ) → IsSoundMachine events m → may_take events m step ≡ true
     → old sector ≡ durable events first m sector
-    → left_after events m step old sector ≡ durable events first (after m step) sector
+    → left_after events m step old sector ≡ durable events first (machine_after m step) sector
 left_durable events m (Destage at) first old sector sound may same =
     grind (arith, eqb_tells, put_newest)
 left_durable events m other first old sector sound may same = same
 
 runs_on : (events : List CoreEvent) (first : Content) (steps : List Step) (old new : WorldState)
-    → IsSound events (machine_of old)
+    → IsSoundMachine events (machine_of old)
     → ((sector : ℕ) → sector < length old.cells
     → sector_of old.image sector ≡ durable events first (machine_of old) sector)
     → AllSteps events steps old new
@@ -209,10 +209,10 @@ runs_on events first (step ∷ steps) old new sound image all =
     let mid = all.0 in
     let took = all.1 in
     let may = (and_parts (not old.off) (may_take events (machine_of old) step) took.may).1 in
-    let is : machine_of mid ≡ after (machine_of old) step =
-    like (machine_of mid) (after (machine_of old) step) took.after in
+    let is : machine_of mid ≡ machine_after (machine_of old) step =
+    like (machine_of mid) (machine_after (machine_of old) step) took.after in
     let rest = runs_on events first steps mid new
-    (subst (IsSound events) (sym is) (keeps events (machine_of old) step sound may))
+    (subst (IsSoundMachine events) (sym is) (keeps events (machine_of old) step sound may))
     (λ sector within.
     took.left sector (let size = took.sectors in omega arith)
     ∙ left_durable events (machine_of old) step first (sector_of old.image) sector sound may
@@ -252,7 +252,7 @@ fresh_runs events first steps old new fresh all =
     ap length fresh.cells ∙ length-replicate {A = CellState} (length first / 512) empty_cell in
     let runs =
     runs_on events (sector_of first) steps old new
-    (subst (IsSound events) (sym is) (start_sound events))
+    (subst (IsSoundMachine events) (sym is) (start_sound events))
     (λ sector within.
     ap (λ (bytes : List ℕ). sector_of bytes sector) fresh.image
     ∙ ap (λ (m : Machine). durable events (sector_of first) m sector) (sym is)) all in

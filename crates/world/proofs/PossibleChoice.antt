@@ -21,7 +21,7 @@ use Rattle.judge.specs.declared.accounts.Account.{Account}
 use Rattle.judge.specs.Laws.{any_below-last, held-parts, held_somewhere, kept_within}
 use Rattle.judge.specs.Laws.{last_below-found, none_passes, value-within}
 use Rattle.world.proofs.Calls.{any_call, clash}
-use Rattle.world.proofs.EventSteps.{Follows, follow_all, is_wanted-some, not_ended}
+use Rattle.world.proofs.EventSteps.{AfterFirstEvents, follow_all, is_wanted-some, not_ended}
 use Rattle.world.proofs.RunIsPossible.{end_found, submits_some}
 use Rattle.world.proofs.SectorSteps.{StepsFrame, by_cases, by_test, go_none, go_on, go_one}
 use Rattle.world.proofs.SectorSteps.{landed_from, settles_there, touch_all}
@@ -29,14 +29,14 @@ use Rattle.world.specs.declared.step.Step.{Step}
 use Rattle.world.specs.declared.step.Step.TheVariants.{Submit, End, Power}
 use Rattle.world.specs.inside.{EndsFit, IsChoice, by_sector, is_upto, is_wanted, lands_late, plan}
 use Rattle.world.specs.inside.{steps_left, steps_of, sure_by}
-use Rattle.world.specs.Machine.{IsReachable, Leaves, Machine, after, call_of, calls_below, has_step}
+use Rattle.world.specs.Machine.{IsReachable, Leaves, Machine, machine_after, event_step, calls_below, has_step}
 use Rattle.world.specs.Machine.{is_among, is_end, is_pending, is_submit, newest, start}
 use Rattle.world.specs.Machine.{values_of_id}
 
 -- `m` is the machine after the plan's steps for all events, and for the open requests below `j`. A
 -- wanted request has landed only if it has ended or is below `j`; it is then the newest that is
 -- settled in its sector.
-pub record Finishes (events : List CoreEvent) (wanted : ℕ → Option ℕ) (j : ℕ)
+pub record AfterAllEvents (events : List CoreEvent) (wanted : ℕ → Option ℕ) (j : ℕ)
     (m : Machine) : Type 0 where
   pub calls : m.calls ≡ calls_below events (length events)
   pub on : m.off ≡ false
@@ -65,7 +65,7 @@ ended_called events id request is_ended = elim (option_cases (end_of events id))
   | inr some ↦
       let end = end_found events id some.0 some.1 in
       any_call (is_end id) events (length events) some.0 (End id end.ok) end.within
-      (ap (call_of some.0) end.event) (eq-eqb id id refl)
+      (ap (event_step some.0) end.event) (eq-eqb id id refl)
 ]
 
 covers_request : (event : Option CoreEvent) (sector : ℕ) → covers_at sector event ≡ true
@@ -75,8 +75,8 @@ covers_request other sector covered = cc
 
 begin_finish : (events : List CoreEvent) (wanted : ℕ → Option ℕ) (sure : ℕ → ℕ → Bool) (m : Machine)
     → is_well_formed events ≡ true
-    → IsChoice events wanted sure → Follows events wanted sure (length events) m
-    → Finishes events wanted zero m
+    → IsChoice events wanted sure → AfterFirstEvents events wanted sure (length events) m
+    → AfterAllEvents events wanted zero m
 begin_finish events wanted sure m well_formed choice before = record {
   calls = before.calls;
   on = before.on;
@@ -98,9 +98,9 @@ begin_finish events wanted sure m well_formed choice before = record {
 
 finish_open : (events : List CoreEvent) (wanted : ℕ → Option ℕ) (sure : ℕ → ℕ → Bool) (j : ℕ)
     (m : Machine) → is_well_formed events ≡ true
-    → IsChoice events wanted sure → is_open_at events j ≡ true → Finishes events wanted j m
+    → IsChoice events wanted sure → is_open_at events j ≡ true → AfterAllEvents events wanted j m
     → (new : Machine) × StepsFrame events m
-    (by_sector (lands_late wanted j) (slice_get events j)) new × Finishes events wanted (suc j) new
+    (by_sector (lands_late wanted j) (slice_get events j)) new × AfterAllEvents events wanted (suc j) new
 finish_open events wanted sure j m well_formed choice is_open before =
     let there = is_open_at-open events j is_open in
     let bio = there.bio in
@@ -108,7 +108,7 @@ finish_open events wanted sure j m well_formed choice is_open before =
     grind (arith, before.calls)
     ∙ ap (λ b. b && not (list_any (is_end j) (calls_below events (length events))))
     (any_call (is_submit j) events (length events) j (Submit j) there.within
-    (ap (call_of j) there.submitted) (eq-eqb j j refl))
+    (ap (event_step j) there.submitted) (eq-eqb j j refl))
     ∙ ap not (open_endless events j well_formed is_open) in
     let lands : ℕ → Bool = λ sector. is_wanted (wanted sector) j in
     let settles : ℕ → Bool = λ sector. true in
@@ -180,8 +180,8 @@ finish_open events wanted sure j m well_formed choice is_open before =
     )
 
 finish_ended : (events : List CoreEvent) (wanted : ℕ → Option ℕ) (j : ℕ) (m : Machine)
-    → is_open_at events j ≡ false → Finishes events wanted j m
-    → Finishes events wanted (suc j) m
+    → is_open_at events j ≡ false → AfterAllEvents events wanted j m
+    → AfterAllEvents events wanted (suc j) m
 finish_ended events wanted j m is_ended before = record {
   calls = before.calls;
   on = before.on;
@@ -199,9 +199,9 @@ finish_ended events wanted j m is_ended before = record {
 
 finish_all : (events : List CoreEvent) (wanted : ℕ → Option ℕ) (sure : ℕ → ℕ → Bool) (m : Machine)
     (j : ℕ) → is_well_formed events ≡ true
-    → IsChoice events wanted sure → Finishes events wanted zero m
+    → IsChoice events wanted sure → AfterAllEvents events wanted zero m
     → (new : Machine) × StepsFrame events m (collect (steps_left events wanted) j) new
-    × Finishes events wanted j new
+    × AfterAllEvents events wanted j new
 finish_all events wanted sure m zero well_formed choice before = (m, go_none events m, before)
 finish_all events wanted sure m (suc j) well_formed choice before =
     let front = finish_all events wanted sure m j well_formed choice before in
@@ -212,17 +212,17 @@ finish_all events wanted sure m (suc j) well_formed choice before =
       next.2,
     )
   where
-    step : (mid : Machine) → Finishes events wanted j mid
+    step : (mid : Machine) → AfterAllEvents events wanted j mid
         → (is_open_at events j ≡ true) ⊎ (is_open_at events j ≡ false)
         → (new : Machine) × StepsFrame events mid (steps_left events wanted j) new
-        × Finishes events wanted (suc j) new
+        × AfterAllEvents events wanted (suc j) new
     step mid finishes (inl is_open) =
         grind (arith, finish_open events wanted sure j mid well_formed choice is_open finishes)
     step mid finishes (inr is_ended) =
         grind (arith, go_none events mid, finish_ended events wanted j mid is_ended finishes)
 
 newest_wanted : (events : List CoreEvent) (wanted : ℕ → Option ℕ) (m : Machine) (sector : ℕ)
-    → Finishes events wanted (length events) m
+    → AfterAllEvents events wanted (length events) m
     → ((id : ℕ) → wanted sector ≡ Some id → id < length events)
     → newest (m.settled sector) ≡ wanted sector
 newest_wanted events wanted m sector finishes among = elim (option_cases (wanted sector)) [
@@ -245,11 +245,11 @@ plan_leaves events first now wanted sure well_formed choice values =
     let finishes = rest.2 in
     let power : has_step events last Power ≡ true = grind (arith, finishes.on) in
     let all =
-    go_on events start front.0 (after last Power)
+    go_on events start front.0 (machine_after last Power)
     (collect (λ place. steps_of events wanted sure place (slice_get events place))
     (length events))
     (collect (steps_left events wanted) (length events) ++ Power ∷ []) front.1
-    (go_on events front.0 last (after last Power)
+    (go_on events front.0 last (machine_after last Power)
     (collect (steps_left events wanted) (length events)) (Power ∷ []) rest.1
     (go_one events last Power power)) in
     record {

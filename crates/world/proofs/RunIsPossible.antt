@@ -22,7 +22,7 @@ use Rattle.world.proofs.Calls.{calls_before, came_before, came_early, clash, eac
 use Rattle.world.proofs.Calls.{is_good_end, not_true, with_cases}
 use Rattle.world.specs.declared.step.Step.{Step}
 use Rattle.world.specs.declared.step.Step.TheVariants.{Submit, Land, Destage, End, Power}
-use Rattle.world.specs.Machine.{IsReachable, Machine, after, before_submit, call_of, calls_below}
+use Rattle.world.specs.Machine.{IsReachable, Machine, machine_after, before_submit, event_step, calls_below}
 use Rattle.world.specs.Machine.{durable, has_landed, has_settled, has_step, is_among, is_end}
 use Rattle.world.specs.Machine.{is_pending, is_run, is_submit, may_succeed, may_take, newest}
 use Rattle.world.specs.Machine.{settled_if_ended, start, taken}
@@ -34,7 +34,7 @@ is_not_newest id (other ∷ ids) = not (other == id)
 -- Only submitted requests end or land, and they land only on sectors that they cover. What is
 -- settled has landed, and what ended durably is settled (`fua`, `flushed`). If `later` was
 -- submitted after the end of `id` and is in a sector's list, `id` isn't the newest there.
-pub record IsSound (events : List CoreEvent) (m : Machine) : Type 0 where
+pub record IsSoundMachine (events : List CoreEvent) (m : Machine) : Type 0 where
   pub ended : (id : ℕ) → list_any (is_end id) m.calls ≡ true
       → list_any (is_submit id) m.calls ≡ true
   pub submitted : (sector id : ℕ) → is_among (m.landed sector) id ≡ true
@@ -58,7 +58,7 @@ pub record IsSound (events : List CoreEvent) (m : Machine) : Type 0 where
       → came_before (is_end id) (is_submit later) m.calls ≡ true
       → is_among (m.settled sector) later ≡ true → is_not_newest id (m.settled sector) ≡ true
 
-pub start_sound : (events : List CoreEvent) → IsSound events start
+pub start_sound : (events : List CoreEvent) → IsSoundMachine events start
 start_sound events = record {
   ended = λ id h. h;
   submitted = λ sector id h. cc;
@@ -82,9 +82,9 @@ came_new early later id calls known new h =
       | inr there ↦ there
     ]
 
-submit_keeps : (events : List CoreEvent) (m : Machine) (id : ℕ) → IsSound events m
+submit_keeps : (events : List CoreEvent) (m : Machine) (id : ℕ) → IsSoundMachine events m
     → not (list_any (is_submit id) m.calls) ≡ true
-    → IsSound events (after m (Submit id))
+    → IsSoundMachine events (machine_after m (Submit id))
 submit_keeps events m id sound new = record {
   ended =
       λ other h. or_second (id == other) (list_any (is_submit other) m.calls) (sound.ended other h);
@@ -105,9 +105,9 @@ submit_keeps events m id sound new = record {
       grind (arith, came_new);
 }
 
-land_keeps : (events : List CoreEvent) (m : Machine) (id sector : ℕ) → IsSound events m
+land_keeps : (events : List CoreEvent) (m : Machine) (id sector : ℕ) → IsSoundMachine events m
     → is_pending m id ≡ true
-    → covers_at sector (slice_get events id) ≡ true → IsSound events (after m (Land id sector))
+    → covers_at sector (slice_get events id) ≡ true → IsSoundMachine events (machine_after m (Land id sector))
 land_keeps events m id sector sound pending covered =
     let parts = and_parts (list_any (is_submit id) m.calls)
     (not (list_any (is_end id) m.calls)) pending in
@@ -135,8 +135,8 @@ land_keeps events m id sector sound pending covered =
       settled_later = sound.settled_later;
     }
 
-destage_keeps : (events : List CoreEvent) (m : Machine) (sector : ℕ) → IsSound events m
-    → IsSound events (after m (Destage sector))
+destage_keeps : (events : List CoreEvent) (m : Machine) (sector : ℕ) → IsSoundMachine events m
+    → IsSoundMachine events (machine_after m (Destage sector))
 destage_keeps events m sector sound = record {
   ended = sound.ended;
   submitted = sound.submitted;
@@ -191,9 +191,9 @@ other_way : (a b : Bool) → (not a || b) ≡ true → a ≡ true → b ≡ true
 other_way true b h is = h
 other_way false b h is = cc
 
-end_keeps : (events : List CoreEvent) (m : Machine) (id : ℕ) (ok : Bool) → IsSound events m
+end_keeps : (events : List CoreEvent) (m : Machine) (id : ℕ) (ok : Bool) → IsSoundMachine events m
     → is_pending m id ≡ true
-    → (not ok || may_succeed events m id) ≡ true → IsSound events (after m (End id ok))
+    → (not ok || may_succeed events m id) ≡ true → IsSoundMachine events (machine_after m (End id ok))
 end_keeps events m id ok sound pending may =
     let parts = and_parts (list_any (is_submit id) m.calls)
     (not (list_any (is_end id) m.calls)) pending in
@@ -252,8 +252,8 @@ end_keeps events m id ok sound pending may =
       settled_later = sound.settled_later;
     }
 
-power_keeps : (events : List CoreEvent) (m : Machine) → IsSound events m
-    → IsSound events (after m Power)
+power_keeps : (events : List CoreEvent) (m : Machine) → IsSoundMachine events m
+    → IsSoundMachine events (machine_after m Power)
 power_keeps events m sound = record {
   ended = sound.ended;
   submitted = sound.submitted;
@@ -265,8 +265,8 @@ power_keeps events m sound = record {
   settled_later = sound.settled_later;
 }
 
-pub keeps : (events : List CoreEvent) (m : Machine) (step : Step) → IsSound events m
-    → may_take events m step ≡ true → IsSound events (after m step)
+pub keeps : (events : List CoreEvent) (m : Machine) (step : Step) → IsSoundMachine events m
+    → may_take events m step ≡ true → IsSoundMachine events (machine_after m step)
 keeps events m (Submit id) sound may =
     submit_keeps events m id sound
     (and_parts (is_request (slice_get events id)) (not (list_any (is_submit id) m.calls)) may).1
@@ -282,13 +282,13 @@ keeps events m (End id ok) sound may =
     end_keeps events m id ok sound both.0 both.1
 keeps events m Power sound may = power_keeps events m sound
 
-pub run_sound : (events : List CoreEvent) (m : Machine) (run : List Step) → IsSound events m
-    → is_run events m run ≡ true → IsSound events (taken m run)
+pub run_sound : (events : List CoreEvent) (m : Machine) (run : List Step) → IsSoundMachine events m
+    → is_run events m run ≡ true → IsSoundMachine events (taken m run)
 run_sound events m [] sound runs = sound
 run_sound events m (step ∷ run) sound runs =
-    let parts = and_parts (has_step events m step) (is_run events (after m step) run) runs in
+    let parts = and_parts (has_step events m step) (is_run events (machine_after m step) run) runs in
     let may = and_parts (not m.off) (may_take events m step) parts.0 in
-    run_sound events (after m step) run (keeps events m step sound may.1) parts.1
+    run_sound events (machine_after m step) run (keeps events m step sound may.1) parts.1
 
 end_is : (id : ℕ) (event : Option CoreEvent) → is_end_of id event ≡ true
     → (ok : Bool) × (event ≡ Some (core_events.Complete id ok))
@@ -297,14 +297,14 @@ end_is id (Some (core_events.Complete ended ok)) h =
     (ok, rw (eqb-true ended id h))
 end_is id other h = cc
 
-pub record Ends (events : List CoreEvent) (id place : ℕ) : Type 0 where
+pub record StepsEnd (events : List CoreEvent) (id place : ℕ) : Type 0 where
   pub within : place < length events
   pub later : id < place
   pub ok : Bool
   pub event : slice_get events place ≡ Some (core_events.Complete id ok)
 
 pub end_found : (events : List CoreEvent) (id place : ℕ) → end_of events id ≡ Some place
-    → Ends events id place
+    → StepsEnd events id place
 end_found events id place is =
     grind (arith, first_below-found, and_parts, end_is, ltb-true)
 
@@ -327,13 +327,13 @@ before_found events id later before = grind (arith, option_cases, below_found)
 
 submit_call : (events : List CoreEvent) (place : ℕ) (bio : Bio)
     → slice_get events place ≡ Some (core_events.Submit bio)
-    → call_of place (slice_get events place) ≡ Submit place ∷ []
-submit_call events place bio is = ap (call_of place) is
+    → event_step place (slice_get events place) ≡ Submit place ∷ []
+submit_call events place bio is = ap (event_step place) is
 
 end_call : (events : List CoreEvent) (place id : ℕ) (ok : Bool)
     → slice_get events place ≡ Some (core_events.Complete id ok)
-    → call_of place (slice_get events place) ≡ End id ok ∷ []
-end_call events place id ok is = ap (call_of place) is
+    → event_step place (slice_get events place) ≡ End id ok ∷ []
+end_call events place id ok is = ap (event_step place) is
 
 pub submits_some : (test : Bio → Bool) (event : Option CoreEvent) → submits test event ≡ true
     → (bio : Bio) × (event ≡ Some (core_events.Submit bio))
@@ -361,7 +361,7 @@ good_called events id good =
       end_call,
     )
 
-kept_settled : (events : List CoreEvent) (m : Machine) (sector id : ℕ) → IsSound events m
+kept_settled : (events : List CoreEvent) (m : Machine) (sector id : ℕ) → IsSoundMachine events m
     → m.calls ≡ calls_below events (length events)
     → is_kept events sector id ≡ true → is_among (m.settled sector) id ≡ true
 kept_settled events m sector id sound fits kept =
@@ -398,7 +398,7 @@ kept_settled events m sector id sound fits kept =
           (ap (came_before (is_good_end id) (is_submit flush)) fits ∙ came) parts.1
     ]
 
-newest_stays : (events : List CoreEvent) (m : Machine) (sector id : ℕ) → IsSound events m
+newest_stays : (events : List CoreEvent) (m : Machine) (sector id : ℕ) → IsSoundMachine events m
     → m.calls ≡ calls_below events (length events)
     → is_not_newest id (m.settled sector) ≡ false → is_replaced events sector id ≡ false
 newest_stays events m sector id sound fits is_newest =
@@ -426,7 +426,7 @@ newest_stays events m sector id sound fits is_newest =
       | inr other ↦ other
     ])
 
-none_kept : (events : List CoreEvent) (m : Machine) (sector : ℕ) → IsSound events m
+none_kept : (events : List CoreEvent) (m : Machine) (sector : ℕ) → IsSoundMachine events m
     → m.calls ≡ calls_below events (length events)
     → m.settled sector ≡ [] → has_kept events sector ≡ false
 none_kept events m sector sound fits none = grind (arith, any_below-none, bool_cases, kept_settled)
@@ -438,7 +438,7 @@ newest_cases [] = inl refl
 newest_cases (id ∷ ids) = inr (id, refl, among_new id ids, ap not (eq-eqb id id refl))
 
 possible_at : (events : List CoreEvent) (m : Machine) (first now : Content) (sector : ℕ)
-    → IsSound events m → m.calls ≡ calls_below events (length events)
+    → IsSoundMachine events m → m.calls ≡ calls_below events (length events)
     → durable events first m sector ≡ now sector → PossibleAt events first now sector
 possible_at events m first now sector sound fits left =
     grind (arith, newest_cases (m.settled sector), none_kept, covered_value, newest_stays)

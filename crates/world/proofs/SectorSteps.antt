@@ -13,7 +13,7 @@ use Rattle.bio.specs.Possible.{covers_at}
 use Rattle.bio.specs.RequestLaws.{covers-within}
 use Rattle.bio.specs.Requests.{covers, first_sector, is_tracked, sector_count}
 use Rattle.world.specs.declared.step.Step.{Step}
-use Rattle.world.specs.Machine.{Machine, after, has_step, is_among, is_pending, is_run, taken}
+use Rattle.world.specs.Machine.{Machine, machine_after, has_step, is_among, is_pending, is_run, taken}
 use Rattle.world.specs.Machine.{with_sector}
 use Rattle.world.specs.inside.{by_sector, touch}
 use Rattle.world.proofs.Calls.{among_more, clash, with_here}
@@ -30,9 +30,9 @@ run_append : (events : List CoreEvent) (m : Machine) (xs ys : List Step)
     → is_run events m (xs ++ ys) ≡ (is_run events m xs && is_run events (taken m xs) ys)
 run_append events m [] ys = refl
 run_append events m (step ∷ xs) ys =
-    ap (λ b. has_step events m step && b) (run_append events (after m step) xs ys)
-    ∙ joined (has_step events m step) (is_run events (after m step) xs)
-    (is_run events (taken (after m step) xs) ys)
+    ap (λ b. has_step events m step && b) (run_append events (machine_after m step) xs ys)
+    ∙ joined (has_step events m step) (is_run events (machine_after m step) xs)
+    (is_run events (taken (machine_after m step) xs) ys)
   where
     joined : (a b c : Bool) → (a && (b && c)) ≡ ((a && b) && c)
     joined true b c = refl
@@ -40,7 +40,7 @@ run_append events m (step ∷ xs) ys =
 
 taken_append : (m : Machine) (xs ys : List Step) → taken m (xs ++ ys) ≡ taken (taken m xs) ys
 taken_append m [] ys = refl
-taken_append m (step ∷ xs) ys = taken_append (after m step) xs ys
+taken_append m (step ∷ xs) ys = taken_append (machine_after m step) xs ys
 
 pub go_on : (events : List CoreEvent) (a b c : Machine) (xs ys : List Step)
     → StepsFrame events a xs b → StepsFrame events b ys c → StepsFrame events a (xs ++ ys) c
@@ -50,7 +50,7 @@ pub go_none : (events : List CoreEvent) (m : Machine) → StepsFrame events m []
 go_none events m = record { runs = refl; ends = refl }
 
 pub go_one : (events : List CoreEvent) (m : Machine) (step : Step) → has_step events m step ≡ true
-    → StepsFrame events m (step ∷ []) (after m step)
+    → StepsFrame events m (step ∷ []) (machine_after m step)
 go_one events m step has = grind arith
 
 abbrev pub by_test : Bool → ℕ → List ℕ → List ℕ → List ℕ

@@ -5,7 +5,7 @@ use Rattle.bio.specs.Content.{Content, Patch, put, sector_of}
 use Rattle.bio.specs.declared.event.CoreEvent.{CoreEvent}
 use Rattle.world.specs.declared.step.Step.{Step}
 use Rattle.world.specs.declared.step.Step.TheVariants.{Destage}
-use Rattle.world.specs.Machine.{Machine, after, durable, has_step, is_run, newest, start, taken}
+use Rattle.world.specs.Machine.{Machine, machine_after, durable, has_step, is_run, newest, start, taken}
 use Rattle.world.specs.Machine.{values_of_id}
 
 -- The cell of one sector. `landed` lists the requests that landed there, newest first. `settled`
@@ -83,7 +83,7 @@ left_after events m (Destage at) old sector =
 left_after events m _ old sector = old sector
 
 -- `new` is the image `old` with the patch's value in the sector `at`, and nothing else changed
-pub record IsPut (patch : Patch) (at : ℕ) (old new : List ℕ) : Type 0 where
+pub record PutsSector (patch : Patch) (at : ℕ) (old new : List ℕ) : Type 0 where
   pub size : length new ≡ length old
   pub each : (sector : ℕ) → sector < length old / 512
       → sector_of new sector ≡ put_at patch at (sector_of old) sector
@@ -91,9 +91,9 @@ pub record IsPut (patch : Patch) (at : ℕ) (old new : List ℕ) : Type 0 where
 -- `new` is `old` after it takes the step. The machine of `old` can take the step, and the machine
 -- of `new` is that machine after the step. The image changes as `left_after` says, and keeps its
 -- size.
-pub record Steps (events : List CoreEvent) (step : Step) (old new : WorldState) : Type 0 where
+pub record StepsWorld (events : List CoreEvent) (step : Step) (old new : WorldState) : Type 0 where
   pub may : has_step events (machine_of old) step ≡ true
-  pub after : IsSameMachine (machine_of new) (after (machine_of old) step)
+  pub machine_after : IsSameMachine (machine_of new) (machine_after (machine_of old) step)
   pub left : (sector : ℕ) → sector < length old.cells → sector_of new.image sector
       ≡ left_after events (machine_of old) step (sector_of old.image) sector
   pub sectors : length new.cells ≡ length old.cells
@@ -103,7 +103,7 @@ pub record Steps (events : List CoreEvent) (step : Step) (old new : WorldState) 
 abbrev pub AllSteps : List CoreEvent → List Step → WorldState → WorldState → Type 0
 AllSteps events [] old new = old ≡ new
 AllSteps events (step ∷ steps) old new =
-    (mid : WorldState) × Steps events step old mid × AllSteps events steps mid new
+    (mid : WorldState) × StepsWorld events step old mid × AllSteps events steps mid new
 
 -- `steps` is a run of the machine from its start, and `world` models the machine after it. If
 -- `first` was on the device before the run, the image of `world` is the durable content after the

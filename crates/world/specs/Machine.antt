@@ -37,12 +37,12 @@ abbrev pub with_sector : ℕ → List ℕ → (ℕ → List ℕ) → ℕ → Lis
 with_sector sector ids old other = if other == sector then ids else old other
 
 -- the machine `m` after the step
-abbrev pub after : Machine → Step → Machine
-after m (Submit id) = record m { calls = Submit id ∷ m.calls }
-after m (Land id sector) = record m { landed = with_sector sector (id ∷ m.landed sector) m.landed }
-after m (Destage sector) = record m { settled = with_sector sector (m.landed sector) m.settled }
-after m (End id ok) = record m { calls = End id ok ∷ m.calls }
-after m Power = record m { off = true }
+abbrev pub machine_after : Machine → Step → Machine
+machine_after m (Submit id) = record m { calls = Submit id ∷ m.calls }
+machine_after m (Land id sector) = record m { landed = with_sector sector (id ∷ m.landed sector) m.landed }
+machine_after m (Destage sector) = record m { settled = with_sector sector (m.landed sector) m.settled }
+machine_after m (End id ok) = record m { calls = End id ok ∷ m.calls }
+machine_after m Power = record m { off = true }
 
 -- the step submits the request `id`
 abbrev pub is_submit : ℕ → Step → Bool
@@ -124,24 +124,24 @@ has_step events m step = not m.off && may_take events m step
 -- the machine `m` after the steps, one after another
 abbrev pub taken : Machine → List Step → Machine
 taken m [] = m
-taken m (step ∷ steps) = taken (after m step) steps
+taken m (step ∷ steps) = taken (machine_after m step) steps
 
 -- `m` can take the steps, one after another
 abbrev pub is_run : List CoreEvent → Machine → List Step → Bool
 is_run events m [] = true
-is_run events m (step ∷ steps) = has_step events m step && is_run events (after m step) steps
+is_run events m (step ∷ steps) = has_step events m step && is_run events (machine_after m step) steps
 
 -- the step for the event at index `place`, if it is a submission or an end; no step for other
 -- events
-abbrev pub call_of : ℕ → Option CoreEvent → List Step
-call_of place (Some (core_events.Submit bio)) = Submit place ∷ []
-call_of place (Some (core_events.Complete id ok)) = End id ok ∷ []
-call_of place _ = []
+abbrev pub event_step : ℕ → Option CoreEvent → List Step
+event_step place (Some (core_events.Submit bio)) = Submit place ∷ []
+event_step place (Some (core_events.Complete id ok)) = End id ok ∷ []
+event_step place _ = []
 
 -- the steps for the submissions and ends among the events before index `place`, newest first
 abbrev pub calls_below : List CoreEvent → ℕ → List Step
 calls_below events zero = []
-calls_below events (suc place) = call_of place (slice_get events place) ++ calls_below events place
+calls_below events (suc place) = event_step place (slice_get events place) ++ calls_below events place
 
 -- the values that the request `id` puts in sectors; none without an id
 abbrev pub values_of_id : List CoreEvent → Option ℕ → Patch

@@ -142,7 +142,6 @@ fn covers(bio: &Bio, sector: u64) -> bool
     bio.is_tracked() && is_in(bio.first_sector(), bio.sector_count(), sector)
 }
 
-// Returns whether the sector is one of the `count` sectors from `first` on.
 fn is_in(first: u64, count: u64, sector: u64) -> bool
     ensures { result ≡ is_in first count sector }
 {

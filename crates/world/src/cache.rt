@@ -6,7 +6,7 @@ ghost use Rattle.std.specs.Prelude.{◌≡◌, ◌∷◌, ◌*◌, ◌/◌, ◌%
 ghost use Rattle.std.specs.Prelude.{false, true, length, replicate, get_or, reverse, slice_get};
 ghost use Rattle.std.specs.Prelude.{slice_set};
 ghost use Rattle.bio.specs.Events.{is_lawful};
-ghost use Rattle.world.specs.Cells.{IsFresh, IsPut, Steps, WorldState, empty_cell};
+ghost use Rattle.world.specs.Cells.{IsFresh, PutsSector, StepsWorld, WorldState, empty_cell};
 ghost use Rattle.world.specs.Cells.{landed_of, landing, machine_of, settling};
 ghost use Rattle.world.specs.Machine.{has_step, newest, values_of_id};
 ghost use Rattle.world.specs.declared.step.StepError.TheVariants as errors;
@@ -80,7 +80,7 @@ impl World {
     /// sectors of each request that has to be settled, and for the landings there.
     pub fn step(&mut self, events: &[CoreEvent], step: &Step) -> Result<(), StepError>
         requires { is_lawful (length self.old.image / 512) events.now ≡ true }
-        ensures taken { OnOk result (Steps events.now step.now self.old self.new) }
+        ensures taken { OnOk result (StepsWorld events.now step.now self.old self.new) }
         ensures refused { OnErr result (self.new ≡ self.old) }
         ensures bad { has_step events.now (machine_of self.old) step.now ≡ false
             → result ≡ Err errors.BadStep }
@@ -109,7 +109,7 @@ impl World {
         requires lawful { is_lawful (length self.old.image / 512) events.now ≡ true }
         requires sectors { length self.old.image ≡ 512 * length self.old.cells }
         requires may { has_step events.now (machine_of self.old) step.now ≡ true }
-        ensures taken { OnOk result (Steps events.now step.now self.old self.new) }
+        ensures taken { OnOk result (StepsWorld events.now step.now self.old self.new) }
         ensures refused { OnErr result (self.new ≡ self.old) }
     {
         match step {
@@ -156,7 +156,7 @@ impl World {
               (settling (get_or self.old.cells sector empty_cell));
           image = self.new.image;
         } }
-        ensures image { IsPut (values_of_id events.now
+        ensures image { PutsSector (values_of_id events.now
             (newest (landed_of (slice_get self.old.cells sector)))) sector
             self.old.image self.new.image }
     {

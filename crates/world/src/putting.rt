@@ -2,7 +2,7 @@
 ghost use Rattle.std.specs.Prelude.{◌≡◌, ◌/◌, ◌<◌, Some, length, slice_get};
 ghost use Rattle.bio.specs.Possible.{values_at, values_of};
 ghost use Rattle.bio.specs.Content.{Patch, discards, writes};
-ghost use Rattle.world.specs.Cells.{IsPut};
+ghost use Rattle.world.specs.Cells.{PutsSector};
 ghost use Rattle.world.specs.Machine.{values_of_id};
 
 use bio::{Bio, CoreEvent, Id};
@@ -12,7 +12,7 @@ use judge::{SECTOR, place_in, sector_bytes};
 /// request and value.
 pub fn put_newest(image: &mut [u8], events: &[CoreEvent], newest: Option<Id>, sector: usize)
     requires { sector < length image.old / 512 }
-    ensures { IsPut (values_of_id events.now newest) sector image.old image.new }
+    ensures { PutsSector (values_of_id events.now newest) sector image.old image.new }
 {
     match newest {
         Some(id) => put_id(image, events, id.place(), sector),
@@ -23,7 +23,7 @@ pub fn put_newest(image: &mut [u8], events: &[CoreEvent], newest: Option<Id>, se
 // Puts the value that the request of the event at index `id` has for the sector, if any.
 fn put_id(image: &mut [u8], events: &[CoreEvent], id: u64, sector: usize)
     requires { sector < length image.old / 512 }
-    ensures { IsPut (values_at (slice_get events.now id)) sector image.old image.new }
+    ensures { PutsSector (values_at (slice_get events.now id)) sector image.old image.new }
 {
     match events.get(id as usize) {
         Some(event) => put_event(image, event, sector),
@@ -34,7 +34,7 @@ fn put_id(image: &mut [u8], events: &[CoreEvent], id: u64, sector: usize)
 // Puts the value that the event's request has for the sector, if any.
 fn put_event(image: &mut [u8], event: &CoreEvent, sector: usize)
     requires { sector < length image.old / 512 }
-    ensures { IsPut (values_at (Some event.now)) sector image.old image.new }
+    ensures { PutsSector (values_at (Some event.now)) sector image.old image.new }
 {
     match event {
         CoreEvent::Submit(bio) => put_bio(image, bio, sector),
@@ -46,7 +46,7 @@ fn put_event(image: &mut [u8], event: &CoreEvent, sector: usize)
 // Puts the value that the request has for the sector, if any.
 fn put_bio(image: &mut [u8], bio: &Bio, sector: usize)
     requires { sector < length image.old / 512 }
-    ensures { IsPut (values_of bio.now) sector image.old image.new }
+    ensures { PutsSector (values_of bio.now) sector image.old image.new }
 {
     match bio {
         Bio::Write { first, bytes, .. } => put_written(image, *first, bytes.as_slice(), sector),
@@ -58,7 +58,7 @@ fn put_bio(image: &mut [u8], bio: &Bio, sector: usize)
 // Puts the bytes that a write has for the sector, if it covers the sector.
 fn put_written(image: &mut [u8], first: u64, bytes: &[u8], sector: usize)
     requires { sector < length image.old / 512 }
-    ensures { IsPut (writes first bytes.now) sector image.old image.new }
+    ensures { PutsSector (writes first bytes.now) sector image.old image.new }
 {
     match place_in(first, (bytes.len() / SECTOR) as u64, sector) {
         Some(place) => put_bytes(image, sector, sector_bytes(bytes, place)),
@@ -69,7 +69,7 @@ fn put_written(image: &mut [u8], first: u64, bytes: &[u8], sector: usize)
 // Puts zeroes in the sector, if a discard of `count` sectors from `first` on covers it.
 fn put_zeroes(image: &mut [u8], first: u64, count: u64, sector: usize)
     requires { sector < length image.old / 512 }
-    ensures { IsPut (discards first count) sector image.old image.new }
+    ensures { PutsSector (discards first count) sector image.old image.new }
 {
     match place_in(first, count, sector) {
         Some(_) => put_bytes(image, sector, [0; SECTOR].as_slice()),
@@ -77,12 +77,11 @@ fn put_zeroes(image: &mut [u8], first: u64, count: u64, sector: usize)
     }
 }
 
-// Puts the bytes `part` in the sector.
 fn put_bytes(image: &mut [u8], sector: usize, part: &[u8])
     requires within { sector < length image.old / 512 }
     requires part { length part.now ≡ 512 }
     ensures { (patch : Patch) → patch sector ≡ Some part.now
-        → IsPut patch sector image.old image.new }
+        → PutsSector patch sector image.old image.new }
 {
     let from = sector * SECTOR;
     image[from..from + SECTOR].copy_from_slice(part);

@@ -42,7 +42,7 @@ impl fmt::Display for Step {
             Step::Destage(sector) => write!(f, "destage {sector}"),
             Step::End(id, ok) => {
                 let place = id.place();
-                let result = Ended(ok);
+                let result = RequestEnd(ok);
                 write!(f, "end {place} {result}")
             }
             Step::Power => f.write_str("power"),
@@ -52,9 +52,9 @@ impl fmt::Display for Step {
 
 // How a request ended.
 #[derive(Clone, Copy)]
-struct Ended(bool);
+struct RequestEnd(bool);
 
-impl fmt::Display for Ended {
+impl fmt::Display for RequestEnd {
     ghost output = { λ ended. Some (end_text ended.0) };
 
     fn fmt<W: fmt::Write>(&self, f: &mut fmt::Formatter<W>) -> fmt::Result {

@@ -1,8 +1,8 @@
 // The layers that are stacked, and a plain model of layers over a disk: a list of layers, and one
 // byte for each sector of the disk.
-use crate::calls::Call;
+use crate::calls::DeviceCall;
 use bio::Ms;
-use fault_layers::{Kind, Verdict};
+use fault_layers::{CallKind, CallVerdict};
 use layer_table::{Feature, LayerSpec, Target};
 
 // Table lines for the lower layer, which lies over a disk of 16 sectors and is loaded at time 0.
@@ -55,27 +55,27 @@ fn is_down(up: u64, down: u64, since: u64) -> bool {
     since.checked_rem(turn).unwrap_or(0) >= up.saturating_mul(1000)
 }
 
-fn verdict(layer: &Plain, kind: Kind, now: u64) -> Verdict {
-    let is_read = kind == Kind::Read;
+fn verdict(layer: &Plain, kind: CallKind, now: u64) -> CallVerdict {
+    let is_read = kind == CallKind::Read;
     match layer.spec.target {
         // A dust layer passes each call until messages enable it.
-        Target::Linear | Target::Dust { .. } => Verdict::Pass,
-        Target::Delay { read, write, flush } => Verdict::Delay(Ms::new(match kind {
-            Kind::Read => read,
-            Kind::Flush => flush,
+        Target::Linear | Target::Dust { .. } => CallVerdict::Pass,
+        Target::Delay { read, write, flush } => CallVerdict::Delay(Ms::new(match kind {
+            CallKind::Read => read,
+            CallKind::Flush => flush,
             _ => write,
         })),
-        Target::Error => Verdict::Fail,
-        Target::Fuse { calls } if is_read || layer.passed < calls => Verdict::Pass,
-        Target::Fuse { .. } => Verdict::Fail,
+        Target::Error => CallVerdict::Fail,
+        Target::Fuse { calls } if is_read || layer.passed < calls => CallVerdict::Pass,
+        Target::Fuse { .. } => CallVerdict::Fail,
         Target::Flakey { up, down, feature } => {
             match (is_down(up, down, now.saturating_sub(layer.load)), feature) {
-                (false, _) => Verdict::Pass,
-                (true, Feature::None) => Verdict::Fail,
-                (true, Feature::ErrorReads) if is_read => Verdict::Fail,
-                (true, Feature::ErrorWrites) if !is_read => Verdict::Fail,
-                (true, Feature::DropWrites) if !is_read => Verdict::Drop,
-                (true, _) => Verdict::Pass,
+                (false, _) => CallVerdict::Pass,
+                (true, Feature::None) => CallVerdict::Fail,
+                (true, Feature::ErrorReads) if is_read => CallVerdict::Fail,
+                (true, Feature::ErrorWrites) if !is_read => CallVerdict::Fail,
+                (true, Feature::DropWrites) if !is_read => CallVerdict::Drop,
+                (true, _) => CallVerdict::Pass,
             }
         }
     }
@@ -93,15 +93,15 @@ pub(super) fn counts(layers: &[Plain]) -> (u64, u64) {
 }
 
 // Makes a call on the disk itself. Returns the byte that a read found, or 0.
-fn on_disk(disk: &mut [u8], kind: Kind, first: usize, byte: u8) -> Option<u8> {
+fn on_disk(disk: &mut [u8], kind: CallKind, first: usize, byte: u8) -> Option<u8> {
     match kind {
-        Kind::Read => return disk.get(first).copied(),
-        Kind::Write => put(disk, first, byte),
-        Kind::Discard => {
+        CallKind::Read => return disk.get(first).copied(),
+        CallKind::Write => put(disk, first, byte),
+        CallKind::Discard => {
             put(disk, first, 0);
             put(disk, first.saturating_add(1), 0);
         }
-        Kind::Flush => {}
+        CallKind::Flush => {}
     }
     Some(0)
 }
@@ -118,26 +118,28 @@ pub(super) fn plain_call(
     layers: &mut [Plain],
     disk: &mut [u8],
     now: u64,
-    call: Call,
+    call: DeviceCall,
 ) -> Option<u8> {
     let kind = call.kind;
     let mut sector = call.first;
     let mut begun = Ms::new(now);
     for layer in layers.iter_mut().rev() {
         match verdict(layer, kind, begun.milliseconds()) {
-            Verdict::Pass => {}
-            Verdict::Delay(by) => begun = begun.later_by(by),
-            Verdict::Fail => {
+            CallVerdict::Pass => {}
+            CallVerdict::Delay(by) => begun = begun.later_by(by),
+            CallVerdict::Fail => {
                 layer.faults = layer.faults.saturating_add(1);
                 return None;
             }
-            Verdict::Drop => {
+            CallVerdict::Drop => {
                 layer.lies = layer.lies.saturating_add(1);
                 return Some(0);
             }
         }
         sector = sector.saturating_add(layer.spec.offset);
-        layer.passed = layer.passed.saturating_add(u64::from(kind != Kind::Read));
+        layer.passed = layer
+            .passed
+            .saturating_add(u64::from(kind != CallKind::Read));
     }
     on_disk(disk, kind, sector as usize, call.byte)
 }

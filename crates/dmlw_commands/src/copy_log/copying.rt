@@ -4,7 +4,7 @@ ghost use Rattle.std.specs.Io.KnownBytes.{Appends};
 ghost use Rattle.refusals.specs.Errors.{IsFileError, refused_by};
 ghost use Rattle.dmlw_commands.specs.declared.exit.Exit.{Exit};
 ghost use Rattle.refusals.specs.declared.refusal.Refusal.TheVariants as refusals;
-ghost use Rattle.dmlw_commands.specs.Ends.{Ends, ReportsLine, err_stream, exit_by, fault_line};
+ghost use Rattle.dmlw_commands.specs.Ends.{EndsAsCommand, ReportsLine, err_stream, exit_by, fault_line};
 ghost use Rattle.dmlw_commands.specs.Seen.{seen};
 ghost use Rattle.dmlw_files.specs.Files.{KeepsFiles, image_of};
 ghost use Rattle.dmlw_commands.specs.LogCopies.{Copies, FailsCopy, IsCopiedFrom, copied_line};
@@ -38,7 +38,7 @@ pub fn copy<F: Files, O: Write, E: Write>(
 ) -> Ended
     requires least { 8 ≤ sectors }
     requires most { sectors ≤ 1048576 }
-    ensures ends { Ends (Copies names.entry.log.now names.entry.out.now sectors) exit_by session.old.explains
+    ensures ends { EndsAsCommand (Copies names.entry.log.now names.entry.out.now sectors) exit_by session.old.explains
         (seen (F.contents session.old.files) (F.writes session.old.files)
         (O.contents session.old.out) (E.contents session.old.err))
         (seen (F.contents session.new.files) (F.writes session.new.files)

@@ -23,7 +23,6 @@ impl fmt::Display for Counted {
     }
 }
 
-/// Returns a count of sectors.
 pub fn counted_sectors(count: u64) -> Counted {
     Counted {
         count,
@@ -32,7 +31,6 @@ pub fn counted_sectors(count: u64) -> Counted {
     }
 }
 
-/// Returns a count of entries.
 pub(crate) fn counted_entries(count: u64) -> Counted {
     Counted {
         count,

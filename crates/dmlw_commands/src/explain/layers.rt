@@ -1,6 +1,6 @@
 //! Explains a wrong line of a layer: which of its words is wrong, and which form the line should
 //! have.
-use crate::explain::line::Shown;
+use crate::explain::line::EscapedBytes;
 use crate::explain::script_text::{is_space, number_at, word_at};
 use refusals::number_of;
 use std::fmt;
@@ -87,7 +87,7 @@ fn form_of(line: &[u8]) -> Option<LayerForm> {
 
 /// Writes that a layer's line names an unknown target.
 pub(crate) fn write_unknown_target<W: Write>(line: &[u8], to: &mut W) -> fmt::Result {
-    let word = Shown(word_at(line, 3).unwrap_or_default());
+    let word = EscapedBytes(word_at(line, 3).unwrap_or_default());
     writeln!(
         to,
         "  the word `{word}` isn't a target: the targets are linear, error, flakey, dust, delay and fuse"
@@ -121,7 +121,7 @@ pub(crate) fn write_bad_number<W: Write>(line: &[u8], to: &mut W) -> fmt::Result
     for place in numbers {
         if let Some(word) = word_at(line, *place) {
             if number_of(word).is_none() {
-                let word = Shown(word);
+                let word = EscapedBytes(word);
                 return writeln!(
                     to,
                     "  the word `{word}` isn't a decimal number below 2^64: {form}"

@@ -44,7 +44,7 @@ pub(crate) fn explain_line<W: Write>(
 
 // Writes that no line begins with this word, and lists the forms of lines.
 fn write_unknown<W: Write>(grammar: Grammar, line: &[u8], to: &mut W) -> fmt::Result {
-    let word = Shown(line.split(is_space).next().unwrap_or_default());
+    let word = EscapedBytes(line.split(is_space).next().unwrap_or_default());
     if form_of(other_of(grammar), line).is_some() {
         let (own, other) = match grammar {
             Grammar::Recorder => ("record", "run"),
@@ -96,9 +96,9 @@ fn forms_of(grammar: Grammar) -> &'static [&'static str] {
 
 /// Bytes of a script, printed with escapes; at most the first 100.
 #[derive(Clone, Copy)]
-pub(crate) struct Shown<'a>(pub(crate) &'a [u8]);
+pub(crate) struct EscapedBytes<'a>(pub(crate) &'a [u8]);
 
-impl fmt::Display for Shown<'_> {
+impl fmt::Display for EscapedBytes<'_> {
     fn fmt<W: Write>(&self, f: &mut fmt::Formatter<W>) -> fmt::Result {
         let Some(front) = self.0.get(..SHOWN_BYTES) else {
             let all = self.0.escape_ascii();
@@ -185,22 +185,22 @@ fn write_bad_word<W: Write>(
     to: &mut W,
 ) -> fmt::Result {
     match flaw_of(line.text, form.as_bytes()) {
-        BadWord::None => write_place(grammar, text, line, to),
-        BadWord::Missing(wanted) if wanted == b"<text>".as_slice() => writeln!(
+        WordFault::None => write_place(grammar, text, line, to),
+        WordFault::Missing(wanted) if wanted == b"<text>".as_slice() => writeln!(
             to,
             "  a space is missing: the text is what follows it, and may be empty"
         ),
-        BadWord::Missing(wanted) => {
-            let kind = Shown(wanted);
+        WordFault::Missing(wanted) => {
+            let kind = EscapedBytes(wanted);
             writeln!(to, "  the word {kind} is missing")
         }
-        BadWord::Misfit(wanted, word) => {
-            let (word, kind) = (Shown(word), Shown(wanted));
+        WordFault::Misfit(wanted, word) => {
+            let (word, kind) = (EscapedBytes(word), EscapedBytes(wanted));
             let meaning = meaning_of(wanted);
             writeln!(to, "  the word `{word}` isn't {kind}: {meaning}")
         }
-        BadWord::TooMany(word) => {
-            let word = Shown(word);
+        WordFault::TooMany(word) => {
+            let word = EscapedBytes(word);
             let order = if form.ends_with("]") {
                 ", or is out of order"
             } else {
@@ -212,7 +212,7 @@ fn write_bad_word<W: Write>(
 }
 
 // How a line doesn't fit a form.
-enum BadWord<'a> {
+enum WordFault<'a> {
     None,
     // A word of this kind is missing.
     Missing(&'a [u8]),
@@ -223,7 +223,7 @@ enum BadWord<'a> {
 }
 
 // Returns the first word of a line that doesn't fit a form.
-fn flaw_of<'a>(line: &'a [u8], form: &'a [u8]) -> BadWord<'a> {
+fn flaw_of<'a>(line: &'a [u8], form: &'a [u8]) -> WordFault<'a> {
     if form.ends_with(PICK) {
         return pick_flaw(line);
     }
@@ -233,26 +233,26 @@ fn flaw_of<'a>(line: &'a [u8], form: &'a [u8]) -> BadWord<'a> {
         match next {
             // The rest of the line is a free text, or has its own grammar.
             Some(_) if wanted == b"<text>".as_slice() || wanted == b"0".as_slice() =>
-                return BadWord::None,
+                return WordFault::None,
             Some(word) if fits(wanted, word) => next = words.next(),
             _ if wanted.starts_with(b"[".as_slice()) => {}
-            Some(word) => return BadWord::Misfit(wanted, word),
-            None => return BadWord::Missing(wanted),
+            Some(word) => return WordFault::Misfit(wanted, word),
+            None => return WordFault::Missing(wanted),
         }
     }
     match next {
-        Some(word) => BadWord::TooMany(word),
-        None => BadWord::None,
+        Some(word) => WordFault::TooMany(word),
+        None => WordFault::None,
     }
 }
 // Returns the first pick of a crash that isn't a number.
-fn pick_flaw(line: &[u8]) -> BadWord<'_> {
+fn pick_flaw(line: &[u8]) -> WordFault<'_> {
     for word in line.split(is_space).skip(1) {
         if number_of(word).is_none() {
-            return BadWord::Misfit(b"<pick>", word);
+            return WordFault::Misfit(b"<pick>", word);
         }
     }
-    BadWord::None
+    WordFault::None
 }
 
 // Returns whether a word is of the kind `wanted`, a word of a form.

@@ -1,7 +1,7 @@
 //! Explains why a message to a layer was refused. The layer doesn't exist, its target takes no
 //! messages, the message has wrong words, or the block is listed already or isn't listed.
 use crate::explain::counted::Counted;
-use crate::explain::line::Shown;
+use crate::explain::line::EscapedBytes;
 use crate::explain::script_text::{Numbered, count_of, nth_of, number_at, word_at};
 use refusals::Refusal;
 use std::fmt;
@@ -14,7 +14,7 @@ pub(crate) fn write_message<W: Write>(
     refusal: Refusal,
     to: &mut W,
 ) -> fmt::Result {
-    let block = Shown(word_at(line.text, 4).unwrap_or_default());
+    let block = EscapedBytes(word_at(line.text, 4).unwrap_or_default());
     match refusal {
         Refusal::AlreadyBad => writeln!(
             to,
@@ -45,7 +45,7 @@ fn write_bad_message<W: Write>(text: &[u8], line: Numbered, to: &mut W) -> fmt::
     };
     let target = word_at(layer, 3).unwrap_or_default();
     if target != b"dust".as_slice() {
-        let target = Shown(target);
+        let target = EscapedBytes(target);
         return writeln!(
             to,
             "  layer {wanted} of the {disk} has the target {target}: only dust layers take messages"

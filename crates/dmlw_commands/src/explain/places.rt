@@ -1,5 +1,5 @@
 //! Explains why a script can't have a line at this point, though the line's words are right.
-use crate::explain::line::Shown;
+use crate::explain::line::EscapedBytes;
 use crate::explain::script_text::{
     Grammar, Numbered, begins_with, count_of, first_of_body, line_of, number_at, word_at,
 };
@@ -55,7 +55,7 @@ fn next_of_head(grammar: Grammar, text: &[u8], before: u64) -> Option<&'static s
 
 // Writes the allowed range of the number in a line of the head.
 fn write_range<W: Write>(line: Numbered, to: &mut W) -> fmt::Result {
-    let number = Shown(word_at(line.text, 1).unwrap_or_default());
+    let number = EscapedBytes(word_at(line.text, 1).unwrap_or_default());
     let range = match word_at(line.text, 0) {
         Some(b"seats") => "1 to 64",
         Some(b"log") if word_at(line.text, 2).is_some() => "8 to 1048576, with the word 4096",
@@ -83,7 +83,7 @@ fn write_twice<W: Write>(text: &[u8], line: Numbered, word: &[u8], to: &mut W) -
     let Some(Numbered { number, .. }) = line_of(text, line.number, word) else {
         return Ok(());
     };
-    let word = Shown(word);
+    let word = EscapedBytes(word);
     writeln!(
         to,
         "  line {number} is already a `{word}` line: a script has only one"
@@ -130,8 +130,8 @@ fn write_moment<W: Write>(text: &[u8], line: Numbered, to: &mut W) -> fmt::Resul
     else {
         return Ok(());
     };
-    let moment = Shown(word_at(line.text, 1).unwrap_or_default());
-    let earlier = Shown(word_at(before, 1).unwrap_or_default());
+    let moment = EscapedBytes(word_at(line.text, 1).unwrap_or_default());
+    let earlier = EscapedBytes(word_at(before, 1).unwrap_or_default());
     writeln!(
         to,
         "  the time {moment} is before {earlier}, which line {number} sets: times don't go back"
@@ -146,7 +146,7 @@ fn write_seat<W: Write>(text: &[u8], line: Numbered, seat: &[u8], to: &mut W) ->
     let Some(count) = number_at(seats, 1) else {
         return Ok(());
     };
-    let seat = Shown(seat);
+    let seat = EscapedBytes(seat);
     let last = count.saturating_sub(1);
     writeln!(
         to,

@@ -4,7 +4,7 @@ use crate::explain::counted::{Counted, counted_sectors};
 use crate::explain::layers::{
     write_bad_number, write_range, write_unknown_target, write_wrong_count,
 };
-use crate::explain::line::{Shown, explain_line, write_forms};
+use crate::explain::line::{EscapedBytes, explain_line, write_forms};
 use crate::explain::messages::write_message;
 use crate::explain::script_text::{
     Grammar, Numbered, count_of, end_of, first_open, line_at, line_of, number_at, open_requests,
@@ -30,7 +30,7 @@ pub(crate) fn write_line<W: Write>(
     let Some(line) = line_at(text, number).filter(|line| !line.is_empty()) else {
         return write_too_short(grammar, script, text, number, to);
     };
-    let shown = Shown(line);
+    let shown = EscapedBytes(line);
     writeln!(to, "  line {number} of {script}: {shown}")?;
     let line = Numbered { number, text: line };
     match refusal {
@@ -88,7 +88,7 @@ fn write_too_short<W: Write>(
 // id.
 fn write_id<W: Write>(text: &[u8], line: Numbered, to: &mut W) -> fmt::Result {
     let id = word_at(line.text, 1).unwrap_or_default();
-    let shown = Shown(id);
+    let shown = EscapedBytes(id);
     if submitted_by(line.text).is_some() {
         return match submission_of(text, line.number, id) {
             Some(Numbered { number, .. }) => writeln!(
@@ -173,7 +173,7 @@ fn write_busy<W: Write>(alloc: Global, text: &[u8], line: Numbered, to: &mut W) 
     };
     write!(to, "  {open} still open here")?;
     if let Some(id) = first_open(alloc, text, line.number) {
-        let id = Shown(id);
+        let id = EscapedBytes(id);
         let which = if count == 1 { "" } else { " the first of them" };
         write!(to, ",{which} `{id}`")?;
     }

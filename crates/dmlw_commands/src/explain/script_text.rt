@@ -29,13 +29,11 @@ pub(crate) fn is_space(byte: &u8) -> bool {
     *byte == b' '
 }
 
-/// Returns line `number` of a text, if the text has this line.
 pub(crate) fn line_at(text: &[u8], number: u64) -> Option<&[u8]> {
     text.split(is_line_end)
         .nth(number.saturating_sub(1) as usize)
 }
 
-/// Returns whether a text has the line `wanted`.
 pub(crate) fn has_line(text: &[u8], wanted: &[u8]) -> bool {
     for line in text.split(is_line_end) {
         if line == wanted {
@@ -59,7 +57,6 @@ fn is_filled(word: &&[u8]) -> bool {
     !word.is_empty()
 }
 
-/// Returns whether the first word of a line is `word`.
 pub(crate) fn begins_with(line: &[u8], word: &[u8]) -> bool {
     word_at(line, 0) == Some(word)
 }

@@ -52,7 +52,6 @@ pub(crate) trait Answer: Drop {
         ensures kept { KeepsFiles (F.contents files.old) (F.contents files.new) }
         ensures unwritten { F.writes files.new ≡ F.writes files.old };
 
-    // Returns the exit of a command with this answer.
     fn exit(&self) -> Exit
         ensures { result ≡ meaning.ends self.now };
 }

@@ -8,10 +8,10 @@ ghost use Rattle.bio.specs.Content.{sector_of};
 ghost use Rattle.refusals.specs.declared.refusal.Refusal.TheVariants.{BadMoment};
 ghost use Rattle.dmlw_script.specs.Grammar.{IsTextOf};
 ghost use Rattle.refusals.specs.Errors.{IsFileError, memory_error, refused_by};
-ghost use Rattle.dmlw_commands.specs.Ends.{Ends, reported_line};
+ghost use Rattle.dmlw_commands.specs.Ends.{EndsAsCommand, reported_line};
 ghost use Rattle.dmlw_commands.specs.Seen.{seen};
-ghost use Rattle.dmlw_files.specs.Files.{HoldsImage, IsImage, KeepsFiles, MatchesContents};
-ghost use Rattle.dmlw_commands.specs.Judgements.{Answers, AnswersOf, CanJudge, CannotJudge};
+ghost use Rattle.dmlw_files.specs.Files.{FileHoldsImage, IsImage, KeepsFiles, MatchesContents};
+ghost use Rattle.dmlw_commands.specs.Judgements.{ReturnsAnswer, AnswersOf, CanJudge, CannotJudge};
 ghost use Rattle.dmlw_commands.specs.Judgements.{HasAnswer, HasNoVerdict, blank, exit_answered};
 ghost use Rattle.dmlw_commands.specs.Judgements.{question, question_of};
 
@@ -30,7 +30,7 @@ use std::io::Write;
 /// A question about the image in the file `image`, after the first `moment` events of the script in
 /// the file `script`.
 #[derive(Clone, Copy, Debug)]
-pub(crate) struct Asked<'a> {
+pub(crate) struct AskedImage<'a> {
     pub(crate) script: &'a str,
     pub(crate) moment: u64,
     pub(crate) image: &'a str,
@@ -40,10 +40,10 @@ pub(crate) struct Asked<'a> {
 // answer about the image in the file `asked.image`, after the first `asked.moment` of the
 // recorder's events. A fault is reported to `err`, with advice if the session `explains`.
 pub(crate) fn ask<A: Answer, F: Files, O: Write, E: Write>(
-    asked: Asked<'_>,
+    asked: AskedImage<'_>,
     session: &mut Session<F, O, E>,
 ) -> Ended
-    ensures ends { Ends (AnswersOf A.meaning asked.entry.script.now asked.entry.moment
+    ensures ends { EndsAsCommand (AnswersOf A.meaning asked.entry.script.now asked.entry.moment
         asked.entry.image.now) (exit_answered A.meaning) session.old.explains
         (seen (F.contents session.old.files) (F.writes session.old.files)
         (O.contents session.old.out) (E.contents session.old.err))
@@ -78,7 +78,7 @@ fn explain_answered<A: Answer, F: Files>(
     alloc: Global,
     explains: bool,
     answered: &Result<A, RunError>,
-    asked: Asked<'_>,
+    asked: AskedImage<'_>,
     files: &mut F,
 ) -> String
     ensures silent { explains ≡ false → string_bytes result ≡ [] }
@@ -126,11 +126,11 @@ fn end_answering<A: Answer, O: Write, E: Write>(
 // Reads both files, and prints the answer about the image.
 fn answer_files<A: Answer, F: Files, O: Write>(
     alloc: Global,
-    asked: Asked<'_>,
+    asked: AskedImage<'_>,
     files: &mut F,
     out: &mut O,
 ) -> Result<A, RunError>
-    ensures judged { Answers A.meaning
+    ensures judged { ReturnsAnswer A.meaning
         (question_of (F.contents files.old) asked.entry.script.now asked.entry.moment
         asked.entry.image.now)
         (O.contents out.old) (O.contents out.new) result }
@@ -148,7 +148,7 @@ fn read_bytes<F: Files>(alloc: Global, name: &str, files: &mut F) -> Result<Vec<
         (λ image. MatchesContents (F.contents files.old name.now) image.items) }
     ensures whole { IfOk result (λ image. IsImage image.items) }
     ensures fault { IfErr result IsFileError }
-    ensures readable { HoldsImage (F.contents files.old name.now)
+    ensures readable { FileHoldsImage (F.contents files.old name.now)
         → IfErr result (λ fault. fault ≡ memory_error) }
     ensures kept { KeepsFiles (F.contents files.old) (F.contents files.new) }
     ensures unwritten { F.writes files.new ≡ F.writes files.old }

@@ -1,11 +1,11 @@
 //! `judge SCRIPT M IMAGE`: prints whether a power failure could leave an image on a script's data
 //! disk.
-ghost use Rattle.dmlw_commands.specs.Ends.{Ends};
+ghost use Rattle.dmlw_commands.specs.Ends.{EndsAsCommand};
 ghost use Rattle.dmlw_commands.specs.Judgements.{AnswersOf, exit_answered, verdict_meaning};
 ghost use Rattle.dmlw_commands.specs.Seen.{seen};
 
 use crate::judge_image::answer::Answer;
-use crate::judge_image::answering::{Asked, ask};
+use crate::judge_image::answering::{AskedImage, ask};
 use crate::judge_image::step_lines::explain_event;
 use crate::{Ended, Exit};
 use bio::CoreEvent;
@@ -36,14 +36,14 @@ pub fn judge<F: Files, O: Write, E: Write>(
     image: &str,
     session: &mut Session<F, O, E>,
 ) -> Ended
-    ensures ends { Ends (AnswersOf verdict_meaning script.now moment image.now)
+    ensures ends { EndsAsCommand (AnswersOf verdict_meaning script.now moment image.now)
         (exit_answered verdict_meaning) session.old.explains
         (seen (F.contents session.old.files) (F.writes session.old.files)
         (O.contents session.old.out) (E.contents session.old.err))
         (seen (F.contents session.new.files) (F.writes session.new.files)
         (O.contents session.new.out) (E.contents session.new.err)) result }
 {
-    let asked = Asked {
+    let asked = AskedImage {
         script,
         moment,
         image,

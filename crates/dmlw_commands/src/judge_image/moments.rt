@@ -7,7 +7,7 @@ ghost use Rattle.dmlw_files.specs.Files.{KeepsFiles};
 ghost use Rattle.pending.specs.CompletionList.{last_moment};
 
 use crate::explain::{Counted, counted_sectors};
-use crate::judge_image::answering::Asked;
+use crate::judge_image::answering::AskedImage;
 use bio::{CoreEvent, SECTOR_BYTES};
 use dmlw_files::{Files, read_image, read_text};
 use dmlw_script::read_script;
@@ -47,7 +47,7 @@ struct Moments {
 pub(crate) fn explain_moment<F: Files>(
     alloc: Global,
     explains: bool,
-    asked: Asked<'_>,
+    asked: AskedImage<'_>,
     files: &mut F,
 ) -> String
     ensures silent { explains ≡ false → string_bytes result ≡ [] }
@@ -68,14 +68,14 @@ pub(crate) fn explain_moment<F: Files>(
 // of the disk and of the image, if they differ.
 fn write_moment<F: Files, W: Write>(
     alloc: Global,
-    asked: Asked<'_>,
+    asked: AskedImage<'_>,
     files: &mut F,
     to: &mut W,
 ) -> fmt::Result
     ensures kept { KeepsFiles (F.contents files.old) (F.contents files.new) }
     ensures unwritten { F.writes files.new ≡ F.writes files.old }
 {
-    let Asked {
+    let AskedImage {
         script,
         moment,
         image,

@@ -28,7 +28,7 @@ struct EventLine<'a> {
 
 // How far the steps of a run were matched to lines.
 #[derive(Drop)]
-struct Told {
+struct MatchedSteps {
     // The index after the last submission or end.
     next: usize,
     // The index of the request that landed last.
@@ -83,7 +83,6 @@ pub(crate) fn explain_event<F: Files>(
     }
 }
 
-// Writes which line of the script in the file `script` an event is.
 fn write_event<F: Files, W: Write>(
     alloc: Global,
     event: Id,
@@ -106,7 +105,6 @@ fn write_event<F: Files, W: Write>(
     }
 }
 
-// Writes the steps of a run, each with its line of the script in the file `script`.
 fn write_run<F: Files, W: Write>(
     alloc: Global,
     run: &[Step],
@@ -141,9 +139,8 @@ fn is_line_feed(byte: &u8) -> bool {
     *byte == b'\n'
 }
 
-// Writes each step of a run with its line.
 fn write_steps<W: Write>(lines: &[EventLine], run: &[Step], to: &mut W) -> fmt::Result {
-    let mut told = Told { next: 0, landed: 0 };
+    let mut told = MatchedSteps { next: 0, landed: 0 };
     for step in run {
         match told.place_of(lines, *step) {
             Some(place) => write_step(*step, lines.get(place), to)?,
@@ -166,7 +163,7 @@ fn write_step<W: Write>(step: Step, line: Option<&EventLine>, to: &mut W) -> fmt
     }
 }
 
-impl Told {
+impl MatchedSteps {
     // Returns the index of the event that a step belongs to, after the steps before it. None if
     // power fails before the first submission or end.
     fn place_of(&mut self, lines: &[EventLine], step: Step) -> Option<usize> {

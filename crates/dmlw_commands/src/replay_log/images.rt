@@ -1,11 +1,11 @@
 //! Replays the log in an image on the disk that another image becomes.
 ghost use Rattle.std.specs.Prelude.{◌≡◌, ◌/◌, IfErr, IfOk, length};
-ghost use Rattle.sector_disk.specs.DiskView.{Begins, shown_of};
+ghost use Rattle.sector_disk.specs.DiskView.{PastBegins, shown_of};
 ghost use Rattle.sector_disk.specs.RamView.{HoldsImage, ram_view};
 ghost use Rattle.bio.specs.Content.{sector_of};
 ghost use Rattle.refusals.specs.Errors.{memory_error};
 ghost use Rattle.dmlw_files.specs.Files.{IsImage, image_of};
-ghost use Rattle.dmlw_commands.specs.Replays.{FailsOnImages, IsReplayed, stop_by};
+ghost use Rattle.dmlw_commands.specs.Replays.{FailsOnImages, ImageIsReplayed, stop_by};
 
 use headline::{ReopenError, reopen_and_replay};
 use refusals::{Refusal, RunError};
@@ -34,7 +34,7 @@ pub(crate) fn replay_images(
     requires log { IsImage log }
     requires first { IsImage first }
     ensures replayed { IfOk result
-        (λ done. IsReplayed log first upto.now done.count (image_of done.disk)) }
+        (λ done. ImageIsReplayed log first upto.now done.count (image_of done.disk)) }
     ensures fails { IfErr result (FailsOnImages log first upto.now) }
 {
     let log = disk_of(alloc, log)?;
@@ -62,11 +62,10 @@ fn stop_of(error: ReopenError) -> RunError
     }
 }
 
-// Makes a disk of an image.
 fn disk_of(alloc: Global, image: Image) -> Result<SectorDisk, RunError>
     requires { IsImage image }
     ensures begins { IfOk result
-        (λ disk. Begins (length image / 512) (sector_of image) (shown_of disk)) }
+        (λ disk. PastBegins (length image / 512) (sector_of image) (shown_of disk)) }
     ensures memory { IfErr result (λ fault. fault ≡ memory_error) }
 {
     match SectorDisk::from_image(alloc, image) {

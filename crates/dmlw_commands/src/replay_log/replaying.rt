@@ -5,10 +5,10 @@ ghost use Rattle.std.specs.Io.KnownBytes.{Appends};
 ghost use Rattle.refusals.specs.Errors.{IsFileError, refused_by};
 ghost use Rattle.dmlw_commands.specs.declared.exit.Exit.{Exit};
 ghost use Rattle.refusals.specs.declared.refusal.Refusal.TheVariants as refusals;
-ghost use Rattle.dmlw_commands.specs.Ends.{Ends, ReportsLine, err_stream, exit_by, fault_line};
+ghost use Rattle.dmlw_commands.specs.Ends.{EndsAsCommand, ReportsLine, err_stream, exit_by, fault_line};
 ghost use Rattle.dmlw_commands.specs.Seen.{seen};
 ghost use Rattle.dmlw_files.specs.Files.{KeepsFiles, image_of};
-ghost use Rattle.dmlw_commands.specs.Replays.{FailsReplay, IsReplayedFrom, Replays, replayed_line};
+ghost use Rattle.dmlw_commands.specs.Replays.{FailsReplay, IsReplayedFrom, ReplaysLog, replayed_line};
 
 use crate::explain::{ReplayNames, explain_replaying};
 use crate::replay_log::images::{Replayed, replay_images};
@@ -35,7 +35,7 @@ pub fn replay<F: Files, O: Write, E: Write>(
     upto: &Upto,
     session: &mut Session<F, O, E>,
 ) -> Ended
-    ensures ends { Ends (Replays names.entry.log.now names.entry.first.now names.entry.out.now
+    ensures ends { EndsAsCommand (ReplaysLog names.entry.log.now names.entry.first.now names.entry.out.now
         upto.now) exit_by session.old.explains
         (seen (F.contents session.old.files) (F.writes session.old.files)
         (O.contents session.old.out) (E.contents session.old.err))
@@ -68,7 +68,7 @@ fn replay_files<F: Files, O: Write>(
     files: &mut F,
     out: &mut O,
 ) -> Result<u64, RunError>
-    ensures did { (err : Option (List ℕ)) → Replays names.entry.log.now names.entry.first.now
+    ensures did { (err : Option (List ℕ)) → ReplaysLog names.entry.log.now names.entry.first.now
         names.entry.out.now upto.now
         (seen (F.contents files.old) (F.writes files.old) (O.contents out.old) err)
         (seen (F.contents files.new) (F.writes files.new) (O.contents out.new) err) result }

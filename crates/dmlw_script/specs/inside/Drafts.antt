@@ -37,7 +37,7 @@ pub record IsFlags (n : ℕ) (flags : List Bool) (body : List Command) : Type 0 
 -- The flags of `d` say which of its requests have ended. Its time is the time after its commands.
 pub record IsDraft (d : BodyReader) : Type 0 where
   pub flags : IsFlags (length d.names.keys) d.has_ended.items d.commands.items
-  pub in_time : d.moment ≡ time_after d.commands.items
+  pub in_time : d.time ≡ time_after d.commands.items
 
 -- applies `f` to the value, unless there is a refusal
 infixl 10 ◌>>=◌
@@ -64,11 +64,11 @@ abbrev pub as_refusal : Result (Unit {0}) BadBio → Result (Unit {0}) Refusal
 as_refusal (Ok fine) = Ok tt
 as_refusal (Err bad) = Err (bad_bio_refusal bad)
 
--- The test of a step at the time `moment`. An `at` must not decrease the time, and any other step
+-- The test of a step at the time `time`. An `at` must not decrease the time, and any other step
 -- passes the test of its sectors.
-abbrev pub step_test : (bytes sectors moment : ℕ) → Step → Result (Unit {0}) Refusal
-step_test bytes sectors moment (steps.At later) = if nat_lt later moment then Err BadLine else Ok tt
-step_test bytes sectors moment step = as_refusal (step_answer bytes sectors step)
+abbrev pub step_test : (bytes sectors time : ℕ) → Step → Result (Unit {0}) Refusal
+step_test bytes sectors time (steps.At later) = if nat_lt later time then Err BadLine else Ok tt
+step_test bytes sectors time step = as_refusal (step_answer bytes sectors step)
 
 -- The body with the end of a request. The first argument is the request, or None if the id was
 -- never submitted. If it is None, or the request has ended, `BadId`.
@@ -92,7 +92,7 @@ body_step bytes sectors b (body_lines.Step step) = do
 -- The result of a call agrees with `step`. If the call succeeds, `step` is Ok with the value
 -- `after`, which the call leaves. If it refuses, `step` is the same refusal. If memory ran out,
 -- nothing is claimed.
-abbrev pub Follows : {A : Type 0} → Result (Unit {0}) LineError → A → Result A Refusal → Type 0
-Follows (Ok done) after step = step ≡ Ok after
-Follows (Err (line_errors.Refused refusal)) after step = step ≡ Err refusal
-Follows (Err line_errors.Memory) after step = Unit {0}
+abbrev pub AgreesWithStep : {A : Type 0} → Result (Unit {0}) LineError → A → Result A Refusal → Type 0
+AgreesWithStep (Ok done) after step = step ≡ Ok after
+AgreesWithStep (Err (line_errors.Refused refusal)) after step = step ≡ Err refusal
+AgreesWithStep (Err line_errors.Memory) after step = Unit {0}

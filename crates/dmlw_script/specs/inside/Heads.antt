@@ -11,20 +11,20 @@ use Rattle.layer_table.specs.TableLines.{table_refusal}
 use Rattle.dmlw_script.specs.declared.command.DiskName.{DiskName}
 use Rattle.dmlw_script.specs.declared.command.DiskName.TheVariants as disks
 use Rattle.dmlw_script.specs.declared.head.Head.{Head}
-use Rattle.dmlw_script.specs.declared.head.Part.{Part}
-use Rattle.dmlw_script.specs.declared.head.Part.TheVariants as parts
+use Rattle.dmlw_script.specs.declared.head.HeadPart.{HeadPart}
+use Rattle.dmlw_script.specs.declared.head.HeadPart.TheVariants as parts
 use Rattle.dmlw_script.specs.inside.Drafts.{◌>>=◌}
 use Rattle.dmlw_script.specs.inside.Stages.{Stage}
 use Rattle.dmlw_script.specs.inside.Stages as heads
 use Rattle.dmlw_script.specs.declared.line.HeadLine.{HeadLine}
 use Rattle.dmlw_script.specs.declared.line.HeadLine.TheVariants as head_lines
-use Rattle.dmlw_script.specs.Plans.{is_disk_size, is_log_disk_size, is_within, least_sectors}
+use Rattle.dmlw_script.specs.Plans.{is_disk_size, is_log_disk_size, layer_is_within, least_sectors}
 use Rattle.dmlw_script.specs.Plans.{top_of, Disk}
 use Rattle.dmlw_script.specs.FirstFault.{bare, with_layer}
 
 -- How much was read, for a head that has come to this part. The head has these disks and log
 -- sectors of this size, and the crash has these picks.
-abbrev pub stage_at : List ℕ → Disk → Disk → SectorSize → Part → Stage
+abbrev pub stage_at : List ℕ → Disk → Disk → SectorSize → HeadPart → Stage
 stage_at picks data_disk log_disk size parts.Nothing = heads.Empty
 stage_at picks data_disk log_disk size parts.Data = heads.Data data_disk
 stage_at picks data_disk log_disk size parts.Whole = heads.Whole data_disk log_disk size
@@ -44,7 +44,7 @@ long_layer least disk spec =
 abbrev pub asked_layer : (least : ℕ) → Disk → Result LayerSpec TableError → Result Disk Refusal
 asked_layer least disk (Err error) = Err (table_refusal error)
 asked_layer least disk (Ok spec) =
-    if is_within spec (top_of disk) then long_layer least disk spec else Err OutOfRange
+    if layer_is_within spec (top_of disk) then long_layer least disk spec else Err OutOfRange
 
 -- the disk with one more layer, as in `asked_layer`; `BadLine` if the disk already has four layers
 abbrev pub layer_step : (least : ℕ) → Disk → Result LayerSpec TableError → Result Disk Refusal

@@ -22,8 +22,8 @@ use Rattle.dmlw_script.specs.declared.line.HeadLine.{HeadLine}
 use Rattle.dmlw_script.specs.declared.line.HeadLine.TheVariants as head_lines
 use Rattle.dmlw_script.specs.declared.line_error.LineError.{LineError}
 use Rattle.dmlw_script.specs.declared.line_error.LineError.TheVariants as line_errors
-use Rattle.dmlw_script.specs.declared.run_line.Call.{Call}
-use Rattle.dmlw_script.specs.declared.run_line.Call.TheVariants as calls
+use Rattle.dmlw_script.specs.declared.run_line.RunCall.{RunCall}
+use Rattle.dmlw_script.specs.declared.run_line.RunCall.TheVariants as calls
 use Rattle.dmlw_script.specs.declared.run_line.RunLine.{RunLine}
 use Rattle.dmlw_script.specs.declared.run_line.RunLine.TheVariants as run_lines
 use Rattle.dmlw_script.specs.declared.script_id.ScriptId.{ScriptId}
@@ -131,13 +131,13 @@ body_words verb words =
     if bytes_eq verb (codes "c") then option_map
     (λ name. parsed_lines.Body (body_lines.Complete name)) (id_of_word words)
     else if bytes_eq verb (codes "r") then read_of words
-    else if bytes_eq verb (codes "at") then option_map (λ moment. step (steps.At moment))
+    else if bytes_eq verb (codes "at") then option_map (λ time. step (steps.At time))
     (number_of words)
     else submit_of verb words
 
 -- the meaning of the line of a layer over a disk, with the table line `text`
-abbrev pub layer_of : DiskName → List ℕ → HeadLine
-layer_of over text = head_lines.Layer over (line_answer (words_of text))
+abbrev pub layer_meaning : DiskName → List ℕ → HeadLine
+layer_meaning over text = head_lines.Layer over (line_answer (words_of text))
 
 -- the size of the log's sectors: 512 bytes without a word, and 4,096 for the word `4096`
 abbrev pub size_of : Option (List ℕ) → Option SectorSize
@@ -157,8 +157,8 @@ abbrev pub head_words : List ℕ → List ℕ → Option HeadLine
 head_words verb words =
     if bytes_eq verb (codes "data") then option_map head_lines.Data (number_of words)
     else if bytes_eq verb (codes "log") then log_of words
-    else if bytes_eq verb (codes "data-layer") then Some (layer_of disks.Data words)
-    else if bytes_eq verb (codes "log-layer") then Some (layer_of disks.Log words)
+    else if bytes_eq verb (codes "data-layer") then Some (layer_meaning disks.Data words)
+    else if bytes_eq verb (codes "log-layer") then Some (layer_meaning disks.Log words)
     else None
 
 -- the meaning of a line with the first word `verb` and the other words `words`, as a line of the
@@ -239,13 +239,13 @@ parse_line line = parse_parts (before_byte 32 line) (after_byte 32 line)
 -- the words of the line; the two agree by proof.
 
 -- the mark with this text; None stands for a line with no space after `mark`
-abbrev pub mark_call : Option (List ℕ) → Option Call
+abbrev pub mark_call : Option (List ℕ) → Option RunCall
 mark_call None = None
 mark_call (Some text) = if is_line_text text then Some (calls.Mark text) else None
 
 -- the call of a seat: `verb` is its first word, and `words` are the others, if there are any
-abbrev pub call_of : List ℕ → Option (List ℕ) → Option Call
-call_of verb words =
+abbrev pub seat_call_of : List ℕ → Option (List ℕ) → Option RunCall
+seat_call_of verb words =
     if bytes_eq verb (codes "mark") then mark_call words
     else option_map calls.Submit (submission_of verb words)
 
@@ -258,7 +258,7 @@ seat_of (byte ∷ word) = if byte == 115 then number_of word else None
 abbrev pub seat_line : List ℕ → List ℕ → Option RunLine
 seat_line verb words = do
   seat ← seat_of verb
-  call ← call_of (before_byte 32 words) (after_byte 32 words)
+  call ← seat_call_of (before_byte 32 words) (after_byte 32 words)
   Some (run_lines.Body (record { seat = seat; call = call }))
 
 -- the meaning of a line of the head with the first word `verb` and the other words `words`

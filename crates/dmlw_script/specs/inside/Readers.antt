@@ -11,7 +11,7 @@ use Rattle.dmlw_script.specs.declared.line.BodyLine.{BodyLine}
 use Rattle.dmlw_script.specs.declared.line.HeadLine.{HeadLine}
 use Rattle.dmlw_script.specs.declared.line_error.LineError.{LineError}
 use Rattle.dmlw_script.specs.declared.line_error.LineError.TheVariants as line_errors
-use Rattle.dmlw_script.specs.declared.reader.Reader.{Reader}
+use Rattle.dmlw_script.specs.declared.reader.ScriptReader.{ScriptReader}
 use Rattle.dmlw_script.specs.declared.run_line.RunLine.{RunLine}
 use Rattle.dmlw_script.specs.declared.run_line.RunLine.TheVariants as run_lines
 use Rattle.dmlw_script.specs.declared.run_reader.RunReader.{RunReader}
@@ -33,11 +33,11 @@ pub record Progress : Type 0 where
   pub body : Body
 
 -- the part of a script that the reader `r` has read
-abbrev pub progress_of : Reader → Progress
+abbrev pub progress_of : ScriptReader → Progress
 progress_of r = record { head = stage_of r.picks.items r.head; body = body_of r.draft }
 
 -- the body that the reader has read satisfies `IsDraft`
-abbrev pub IsReader : Reader → Type 0
+abbrev pub IsReader : ScriptReader → Type 0
 IsReader r = IsDraft r.draft
 
 -- whether the body has begun: it has at least one command
@@ -150,12 +150,12 @@ abbrev pub read_lines : Progress → ℕ → List (List ℕ) → Result ScriptVa
 read_lines p number lines = read_by line_step finish_step p number lines
 
 -- the state in which nothing was read
-abbrev pub nothing : Progress
-nothing = record { head = heads.Empty; body = record { names = []; body = [] } }
+abbrev pub unread : Progress
+unread = record { head = heads.Empty; body = record { names = []; body = [] } }
 
 -- the result of reading a text
 abbrev pub read_text : List ℕ → Result ScriptValue Fault
-read_text text = read_lines nothing 1 (lines_of text)
+read_text text = read_lines unread 1 (lines_of text)
 
 -- A fault that names a line is the result `read`. A fault that names no line reports that memory
 -- ran out.
@@ -164,15 +164,15 @@ IsFault (Some line) fault read = read ≡ Err fault
 IsFault None fault read = fault.refusal ≡ Memory
 
 -- The first result, that of a reader, is `read`, unless memory ran out.
-abbrev pub Reads : {A : Type 0} → Result A Fault → Result A Fault → Type 0
-Reads (Ok script) read = read ≡ Ok script
-Reads (Err fault) read = IsFault fault.line fault read
+abbrev pub ReadsLine : {A : Type 0} → Result A Fault → Result A Fault → Type 0
+ReadsLine (Ok script) read = read ≡ Ok script
+ReadsLine (Err fault) read = IsFault fault.line fault read
 
 -- The first result, that of a reader at the end of a text, is `step`, unless memory ran out.
-abbrev pub Finishes : {A : Type 0} → Result A LineError → Result A Refusal → Type 0
-Finishes (Ok script) step = step ≡ Ok script
-Finishes (Err (line_errors.Refused refusal)) step = step ≡ Err refusal
-Finishes (Err line_errors.Memory) step = Unit {0}
+abbrev pub FinishesReading : {A : Type 0} → Result A LineError → Result A Refusal → Type 0
+FinishesReading (Ok script) step = step ≡ Ok script
+FinishesReading (Err (line_errors.Refused refusal)) step = step ≡ Err refusal
+FinishesReading (Err line_errors.Memory) step = Unit {0}
 
 -- the fault that reports an error at the line `line`; out of memory names no line
 abbrev pub fault_of : ℕ → LineError → Fault

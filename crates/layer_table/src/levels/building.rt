@@ -4,7 +4,7 @@ ghost use Rattle.std.specs.Prelude.{◌≡◌, ◌∷◌, List, false, true};
 ghost use Rattle.blockdev.specs.View.{IsRange};
 ghost use Rattle.layer_table.specs.TableLines.{IsLayerSpec};
 ghost use Rattle.layer_table.specs.Layers.{layer_asked, layers_one, layers_three, layers_two};
-ghost use Rattle.layer_table.specs.Layers.{layers_with, IsPut, Layer};
+ghost use Rattle.layer_table.specs.Layers.{layers_with, IsLayerPut, Layer};
 ghost use Rattle.layer_table.specs.Levels.{disk_one, disk_three, disk_two, shape_one, shape_three};
 ghost use Rattle.layer_table.specs.Levels.{shape_two};
 ghost use Rattle.layer_table.specs.OneLevel.{one_shown};
@@ -18,7 +18,7 @@ use crate::slot::Slot;
 use bio::Ms;
 use blockdev::BlockDev;
 use dust_layer::Dust;
-use fault_layers::{Gate, Gated, Linear, Target};
+use fault_layers::{FaultRule, Linear, Ruled, Target};
 use sector_disk::SectorDisk;
 use std::alloc::Global;
 
@@ -30,7 +30,7 @@ impl One {
         requires free { has_layer self.top ≡ false }
         ensures layers { layers_one result ≡ layer_asked spec load ∷ layers_one self }
         ensures disk { disk_one result ≡ disk_one self }
-        ensures shown { IsPut spec (one_shown self) (one_shown result) }
+        ensures shown { IsLayerPut spec (one_shown self) (one_shown result) }
         ensures filled { has_no_gap (shape_one result) ≡ true }
     {
         match self.top {
@@ -58,7 +58,7 @@ impl Two {
         requires filled { has_no_gap (shape_two self) ≡ true }
         ensures layers { layers_two result ≡ layer_asked spec load ∷ layers_two self }
         ensures disk { disk_two result ≡ disk_two self }
-        ensures shown { IsPut spec (two_shown self) (two_shown result) }
+        ensures shown { IsLayerPut spec (two_shown self) (two_shown result) }
         ensures filled { has_no_gap (shape_two result) ≡ true }
     {
         match self.top {
@@ -94,7 +94,7 @@ impl Three {
         requires filled { has_no_gap (shape_three self) ≡ true }
         ensures layers { layers_three result ≡ layer_asked spec load ∷ layers_three self }
         ensures disk { disk_three result ≡ disk_three self }
-        ensures shown { IsPut spec (three_shown self) (three_shown result) }
+        ensures shown { IsLayerPut spec (three_shown self) (three_shown result) }
         ensures filled { has_no_gap (shape_three result) ≡ true }
     {
         match self.top {
@@ -135,11 +135,11 @@ pub(crate) fn layer<D: BlockDev + Drop>(
     ensures device { device_of result ≡ lower }
     ensures layers { (beneath : D → List Layer)
         → layers_with beneath result ≡ layer_asked spec load ∷ beneath lower }
-    ensures shown { IsPut spec (D.shown lower) (slot_shown result) }
+    ensures shown { IsLayerPut spec (D.shown lower) (slot_shown result) }
 {
     let range = Linear::new(lower, spec.offset, spec.length);
     match spec.target {
         Target::Dust { block_bytes } => Slot::Dusted(Dust::new(alloc, range, block_bytes)),
-        target => Slot::Decided(Gated::under(range, Gate::new(target, load), ())),
+        target => Slot::Decided(Ruled::over(range, FaultRule::new(target, load), ())),
     }
 }

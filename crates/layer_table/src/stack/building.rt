@@ -6,8 +6,8 @@ ghost use Rattle.refusals.specs.declared.refusal.Refusal.TheVariants as refusals
 ghost use Rattle.blockdev.specs.View.{IsRange};
 ghost use Rattle.sector_disk.specs.DiskView.{shown_of};
 ghost use Rattle.layer_table.specs.TableLines.{IsLayerSpec};
-ghost use Rattle.layer_table.specs.Layers.{IsPartlyUnder, IsPut, IsSeenAs, layers_under};
-ghost use Rattle.layer_table.specs.Layers.{layers_with, stack_shown, AreOver, IsAllowed, disk_of};
+ghost use Rattle.layer_table.specs.Layers.{IsPartlyUnder, IsLayerPut, IsSeenAs, layers_under};
+ghost use Rattle.layer_table.specs.Layers.{layers_with, stack_shown, AreOver, LayersAreAllowed, disk_of};
 ghost use Rattle.layer_table.specs.Layers.{layer_asked, layers_of, layers_three};
 ghost use Rattle.std.specs.List.{AllByRecursion};
 ghost use Rattle.layer_table.specs.Levels.{disk_three, shape_of};
@@ -24,7 +24,6 @@ use sector_disk::SectorDisk;
 use std::alloc::Global;
 
 impl Stack {
-    /// Makes a stack of the disk and no layer.
     pub fn new(disk: SectorDisk) -> Stack
         ensures layers { layers_of result ≡ [] }
         ensures disk { disk_of result ≡ disk }
@@ -51,7 +50,7 @@ impl Stack {
         ensures layers { IfOk result
             (λ stack. layers_of stack ≡ layer_asked spec load ∷ layers_of self) }
         ensures disk { IfOk result (λ stack. disk_of stack ≡ disk_of self) }
-        ensures shown { IfOk result (λ stack. IsPut spec (stack_shown self) (stack_shown stack)) }
+        ensures shown { IfOk result (λ stack. IsLayerPut spec (stack_shown self) (stack_shown stack)) }
         ensures fits { OnOk result
             ((spec.offset + spec.length ≤ (stack_shown self).size)
             × (length (layers_of self) < 4)) }
@@ -72,7 +71,7 @@ impl Stack {
     /// Puts the layers `specs` over the stack, in their order, each loaded at the time `load`, in
     /// milliseconds. If `over` refuses a layer, the error is OutOfRange. Then the stack is returned
     /// with only the layers before the refused layer.
-    pub fn under(
+    pub fn layered(
         self,
         alloc: Global,
         specs: &[LayerSpec],
@@ -84,7 +83,7 @@ impl Stack {
         ensures disk { IfOk result (λ stack. disk_of stack ≡ disk_of self) }
         ensures shown { IfOk result
             (λ stack. AreOver specs.now (stack_shown self) (stack_shown stack)) }
-        ensures stand { IsAllowed (stack_shown self).size specs.now
+        ensures stand { LayersAreAllowed (stack_shown self).size specs.now
             → length (layers_of self) + length specs.now ≤ 4 → IsOk result }
         ensures refused { IfErr result (λ back. back.1 ≡ refusals.OutOfRange) }
         ensures back { IfErr result (λ back. IsPartlyUnder specs.now load self back.0) }
@@ -115,7 +114,7 @@ fn put(alloc: Global, top: Slot<Three>, spec: LayerSpec, load: Ms) -> Slot<Three
     ensures layers { layers_with layers_three result
         ≡ layer_asked spec load ∷ layers_with layers_three top }
     ensures disk { disk_three (device_of result) ≡ disk_three (device_of top) }
-    ensures shown { IsPut spec (slot_shown top) (slot_shown result) }
+    ensures shown { IsLayerPut spec (slot_shown top) (slot_shown result) }
     ensures filled { has_no_gap (shape_of result) ≡ true }
 {
     match top {

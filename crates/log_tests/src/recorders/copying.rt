@@ -83,7 +83,6 @@ fn entry(rt: &impl Abort, alloc: Global, size: SectorSize, kind: u8) -> Entry
     Entry::of_request(alloc, &bio, size.bytes()).expect(rt, "memory")
 }
 
-// Returns a store with a new log on a device.
 fn store_over<D: BlockDev + Drop>(rt: &impl Abort, device: D, size: SectorSize) -> LogStore<D> {
     assert!(rt; device.sectors() >= size.sectors());
     LogStore::create_sized(device, size)

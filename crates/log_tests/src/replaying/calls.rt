@@ -78,7 +78,6 @@ const STALE: &str = "8 1 1 512 0 512 5 1 0 0 1536 6 1 0 0 2560 0 0 1 0 3072 0 0 
 // A log whose second entry can't be read.
 const DAMAGED: &str = "8 1 2 512 0 512 5 1 0 0 1536 0 9223372036854775808 0 0";
 
-// Returns the image of this name.
 fn image_named(rt: &impl Abort, alloc: Global, name: &str) -> Vec<u8> {
     match name {
         "calls" => image_of(rt, alloc, CALLS, 7_680),
@@ -190,7 +189,6 @@ fn thousands_of_entries_are_replayed(rt: HostRuntime) {
     assert!(rt; found.as_str() == wanted.as_str().trim_end());
 }
 
-// If the target fails a call, the replay ends at that call.
 #[test]
 fn targets_that_fail_end_a_replay(rt: HostRuntime) {
     assert_replays(

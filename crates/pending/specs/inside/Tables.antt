@@ -4,9 +4,9 @@ use Rattle.std.specs.Prelude.{zero, ◌+◌, ◌-◌, ◌<◌, IfSome, Option, S
 use Rattle.std.specs.Prelude.{length, vec_capacity, ◌≡◌, ℕ, suc, slice_index_or, slice_set, ◌≤◌}
 use Rattle.std.specs.Prelude.{◌==◌, min, List, if◌then◌else◌, map, Bool, true, false}
 use Rattle.std.specs.List.{sum_by}
-use Rattle.pending.specs.ChainsView.{Shown, chain_in}
-use Rattle.pending.specs.declared.chains.links.Change.{Change}
-use Rattle.pending.specs.declared.chains.links.Change.TheVariants.{Last, Next}
+use Rattle.pending.specs.ChainsView.{ShownChains, chain_in}
+use Rattle.pending.specs.declared.chains.links.LinkChange.{LinkChange}
+use Rattle.pending.specs.declared.chains.links.LinkChange.TheVariants.{Last, Next}
 use Rattle.pending.specs.declared.chains.links.Links.{Links}
 use Rattle.pending.specs.declared.chains.walk.Walk.{Walk}
 
@@ -46,7 +46,7 @@ IsChain next None rows = rows ≡ []
 IsChain next (Some last) rows = IsRing next last rows
 
 -- The links hold these chains. Each row is exactly once in a chain or among the loose rows.
-pub record Holds (next : List ℕ) (lasts : List (Option ℕ)) (loose : List ℕ)
+pub record HoldChains (next : List ℕ) (lasts : List (Option ℕ)) (loose : List ℕ)
     (chains : List (List ℕ)) : Type 0 where
   pub size : length chains ≡ length lasts
   pub each : (chain : ℕ) → IsChain next (last_in lasts chain) (chain_in chains chain)
@@ -82,9 +82,9 @@ walked_in None = None
 walked_in (Some walk) = Some walk.chain
 
 -- If a chain is being walked, it exists and isn't the chain of the free rows.
-abbrev pub IsWalk : List (Option ℕ) → Option Walk → Type 0
-IsWalk lasts None = Unit {0}
-IsWalk lasts (Some walk) = (0 < walk.chain) × (walk.chain < length lasts)
+abbrev pub WalksChain : List (Option ℕ) → Option Walk → Type 0
+WalksChain lasts None = Unit {0}
+WalksChain lasts (Some walk) = (0 < walk.chain) × (walk.chain < length lasts)
 
 -- The rows of all chains; the walked chain begins at the walk's place.
 abbrev pub seen_chains : Links → Option Walk → List (List ℕ)
@@ -122,7 +122,7 @@ module _ {T : Type 0} where
   -- free
   pub record IsTable (next : List ℕ) (lasts : List (Option ℕ)) (rows : List (Option T))
       (chains : List (List ℕ)) : Type 0 where
-    pub holds : Holds next lasts [] chains
+    pub holds : HoldChains next lasts [] chains
     pub sized : length rows ≡ length next
     pub free : 0 < length lasts
     pub full : (row : ℕ) → row < length rows
@@ -132,7 +132,7 @@ module _ {T : Type 0} where
   -- it isn't free and isn't `row`
   pub record IsOpen (next : List ℕ) (lasts : List (Option ℕ)) (rows : List (Option T)) (row : ℕ)
       (chains : List (List ℕ)) : Type 0 where
-    pub holds : Holds next lasts (row ∷ []) chains
+    pub holds : HoldChains next lasts (row ∷ []) chains
     pub sized : length rows ≡ length next
     pub free : 0 < length lasts
     pub full : (r : ℕ) → r < length rows
@@ -142,7 +142,7 @@ module _ {T : Type 0} where
   pub record IsSound (links : Links) (rows : List (Option T)) (walk : Option Walk) : Type 0 where
     pub table : IsTable links.next.items (seen_lasts links.lasts.items walk) rows
         (seen_chains links walk)
-    pub walks : IsWalk links.lasts.items walk
+    pub walks : WalksChain links.lasts.items walk
 
   -- what always holds for the table and its marks between calls
   pub record IsMarked (links : Links) (rows : List (Option T)) (walk : Option Walk)
@@ -158,7 +158,7 @@ module _ {T : Type 0} where
       (capacity - length rows)
 
   -- what contracts see of the table
-  abbrev pub shown_of : Links → List (Option T) → ℕ → Option Walk → Shown T
+  abbrev pub shown_of : Links → List (Option T) → ℕ → Option Walk → ShownChains T
   shown_of links rows capacity walk = record {
     chains = map (values_of rows) (seen_chains links walk);
     changed = links.changed;
@@ -187,24 +187,24 @@ pub record Changes (old new : Links) (most : ℕ) : Type 0 where
   pub chains : length new.lasts.items ≡ length old.lasts.items
 
 -- The links hold some chains.
-pub record IsKept (next : List ℕ) (lasts : List (Option ℕ)) : Type 0 where
+pub record HoldSomeChains (next : List ℕ) (lasts : List (Option ℕ)) : Type 0 where
   pub loose : List ℕ
   pub chains : List (List ℕ)
-  pub holds : Holds next lasts loose chains
+  pub holds : HoldChains next lasts loose chains
 
 -- The row is the last row of a chain that the links hold.
-pub record IsLast (next : List ℕ) (last : ℕ) : Type 0 where
+pub record IsLastOfChain (next : List ℕ) (last : ℕ) : Type 0 where
   pub lasts : List (Option ℕ)
   pub loose : List ℕ
   pub chains : List (List ℕ)
   pub chain : ℕ
-  pub holds : Holds next lasts loose chains
+  pub holds : HoldChains next lasts loose chains
   pub there : last_in lasts chain ≡ Some last
 
 -- The row is in the chain `chain`, which the links hold. All rows are in chains.
 pub record IsIn (next : List ℕ) (lasts : List (Option ℕ)) (chain row : ℕ) : Type 0 where
   pub chains : List (List ℕ)
-  pub holds : Holds next lasts [] chains
+  pub holds : HoldChains next lasts [] chains
   pub some : 0 < times row (chain_in chains chain)
 
 -- The row is loose, and the chain `chain` exists. The chain's last row is the one in `noted`. For
@@ -213,7 +213,7 @@ pub record IsLoose (next : List ℕ) (noted : List (Option ℕ)) (chain row : �
   pub lasts : List (Option ℕ)
   pub loose : List ℕ
   pub chains : List (List ℕ)
-  pub holds : Holds next lasts (row ∷ loose) chains
+  pub holds : HoldChains next lasts (row ∷ loose) chains
   pub same : last_in lasts chain ≡ last_in noted chain
   pub there : chain < length noted
   pub within : chain < length lasts
@@ -223,24 +223,24 @@ pub record IsLooseRing (next : List ℕ) (lasts : List (Option ℕ)) (chain move
   pub rows : List ℕ
   pub loose : List ℕ
   pub chains : List (List ℕ)
-  pub holds : Holds next lasts (rows ++ loose) chains
+  pub holds : HoldChains next lasts (rows ++ loose) chains
   pub ring : IsRing next moved rows
   pub there : chain < length lasts
 
--- How a `Change` changes the links.
+-- How a `LinkChange` changes the links.
 
 -- The chain and the row that the change names exist.
-abbrev pub IsWithin : List ℕ → List (Option ℕ) → Change → Type 0
-IsWithin next lasts (Last chain row) = (chain < length lasts) × IfSome row (λ r. r < length next)
-IsWithin next lasts (Next row to) = row < length next
+abbrev pub ChangeIsWithin : List ℕ → List (Option ℕ) → LinkChange → Type 0
+ChangeIsWithin next lasts (Last chain row) = (chain < length lasts) × IfSome row (λ r. r < length next)
+ChangeIsWithin next lasts (Next row to) = row < length next
 
 -- The row to which each link leads after the change.
-abbrev pub next_after : List ℕ → Change → List ℕ
+abbrev pub next_after : List ℕ → LinkChange → List ℕ
 next_after next (Last chain row) = next
 next_after next (Next row to) = slice_set next row to
 
 -- The last row of each chain after the change.
-abbrev pub lasts_after : List (Option ℕ) → Change → List (Option ℕ)
+abbrev pub lasts_after : List (Option ℕ) → LinkChange → List (Option ℕ)
 lasts_after lasts (Last chain row) = slice_set lasts chain row
 lasts_after lasts (Next row to) = lasts
 

@@ -51,7 +51,6 @@ impl<'a, T> Iterator for Iter<'a, T> {
 
 impl<'a, T> FusedIterator for Iter<'a, T> {}
 
-// Returns the row, unless it is the last one.
 fn unless_last(row: usize, last: usize) -> Option<usize>
     ensures { result ≡ (if row == last then None else Some row) }
 {

@@ -2,7 +2,7 @@
 ghost use Rattle.std.specs.Prelude.{◌≡◌, ℕ, ◌+◌, ◌-◌, ◌^◌, ◌<◌, ◌≤◌, min, None, [], ◌∷◌, ◌++◌};
 ghost use Rattle.std.specs.Prelude.{length, replicate, slice_set, IfOk, IfSome, IsOk, OnErr, OnOk};
 ghost use Rattle.std.specs.Prelude.{vec_capacity, vec_len};
-ghost use Rattle.pending.specs.inside.Tables.{IsWithin, after, last_in, lasts_after, next_after};
+ghost use Rattle.pending.specs.inside.Tables.{ChangeIsWithin, after, last_in, lasts_after, next_after};
 
 use std::alloc::{AllocError, Global};
 use std::fmt::{self, Debug, Formatter};
@@ -10,7 +10,7 @@ use std::marker::Model;
 
 /// A change of one link.
 #[derive(Clone, Copy, Debug)]
-pub enum Change {
+pub enum LinkChange {
     /// Sets the last row of this chain; None means that the chain has no rows.
     Last(usize, Option<usize>),
     /// Makes the link of the first row lead to the second row.
@@ -167,8 +167,8 @@ impl Links {
     }
 
     /// Makes one change, and counts it.
-    pub fn write(&mut self, change: Change)
-        requires { IsWithin self.old.next.items self.old.lasts.items change }
+    pub fn write(&mut self, change: LinkChange)
+        requires { ChangeIsWithin self.old.next.items self.old.lasts.items change }
         ensures next { self.new.next.items ≡ next_after self.old.next.items change }
         ensures lasts { self.new.lasts.items ≡ lasts_after self.old.lasts.items change }
         ensures changed { self.new.changed ≡ min (self.old.changed + 1) (2 ^ 64 - 1) }
@@ -177,8 +177,8 @@ impl Links {
         ensures chain_room { vec_capacity self.new.lasts ≡ vec_capacity self.old.lasts }
     {
         match change {
-            Change::Last(chain, row) => self.lasts[chain] = LastRow::new(row),
-            Change::Next(row, to) => {
+            LinkChange::Last(chain, row) => self.lasts[chain] = LastRow::new(row),
+            LinkChange::Next(row, to) => {
                 self.next[row].to = to;
                 if to < self.next.len() {
                     self.next[to].from = row;
@@ -250,7 +250,6 @@ impl Links {
         self.lasts.len()
     }
 
-    /// Returns the number of rows.
     pub fn rows(&self) -> usize
         ensures { result ≡ length self.now.next.items }
     {

@@ -28,7 +28,6 @@ impl<T: Drop> Chains<T> {
         self.marks.note(key, row);
     }
 
-    /// Returns the value in a row, if the row is marked.
     pub fn marked(&self, row: usize) -> Option<&T>
         ensures { IfSome result
             (λ value. (rest : List T) × TakesOut (chain_in self.now.chains 1) value.now rest) }

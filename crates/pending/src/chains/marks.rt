@@ -41,14 +41,12 @@ impl Marks {
         })
     }
 
-    /// Returns whether a row is marked.
     pub fn has(&self, row: usize) -> bool
         ensures { result ≡ is_marked self.now.rows.items row }
     {
         row < self.rows.len() && self.rows[row]
     }
 
-    /// Marks a row, if it can be marked.
     pub fn set(&mut self, row: usize)
         ensures { self.new.rows.items ≡ slice_set self.old.rows.items row true }
     {
@@ -57,7 +55,6 @@ impl Marks {
         }
     }
 
-    /// Removes the mark of a row.
     pub fn remove(&mut self, row: usize)
         ensures { self.new.rows.items ≡ slice_set self.old.rows.items row false }
     {

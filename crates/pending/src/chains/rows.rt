@@ -60,7 +60,6 @@ pub fn take_value<T>(rows: &mut Vec<Option<T>>, row: usize) -> Option<T>
     mem::replace(&mut rows[row], None)
 }
 
-/// Puts a value into a row, and returns the value that the row had, if any.
 pub fn put_value<T>(rows: &mut Vec<Option<T>>, row: usize, value: T) -> Option<T>
     requires { row < length rows.old.items }
     ensures taken { result ≡ value_at rows.old.items row }

@@ -30,9 +30,9 @@ pub struct Chains<T> {
 
 impl<T> Model for Chains<T> {
     ghost use Rattle.std.specs.Prelude.{vec_capacity};
-    ghost use Rattle.pending.specs.ChainsView.{Shown, shown_code};
+    ghost use Rattle.pending.specs.ChainsView.{ShownChains, shown_code};
 
-    ghost Value = { Shown T };
+    ghost Value = { ShownChains T };
 
     ghost coded = { shown_code T.code };
 
@@ -263,7 +263,6 @@ impl<T: Drop> Chains<T> {
         self.rows[self.links.next(last)].as_ref()
     }
 
-    /// Returns whether a chain has no values.
     pub fn is_empty(&self, chain: usize) -> bool
         requires { 0 < chain × chain < length self.now.chains }
         ensures { result ≡ (length (chain_in self.now.chains chain) == 0) }

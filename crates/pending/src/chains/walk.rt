@@ -1,6 +1,6 @@
 //! How far a walk over a chain has come.
 ghost use Rattle.std.specs.Prelude.{◌≡◌, ℕ, ◌<◌, IsSome, Some, length};
-ghost use Rattle.pending.specs.inside.Tables.{IsKept, after, last_in, seen_lasts};
+ghost use Rattle.pending.specs.inside.Tables.{HoldSomeChains, after, last_in, seen_lasts};
 
 use crate::chains::links::Links;
 
@@ -22,9 +22,8 @@ pub fn seen_last(links: &Links, walk: Option<Walk>, chain: usize) -> Option<usiz
     }
 }
 
-/// Returns the first row of a chain that has rows.
 pub fn first_row(links: &Links, walk: Option<Walk>, chain: usize) -> usize
-    requires there { IsKept links.now.next.items (seen_lasts links.now.lasts.items walk) }
+    requires there { HoldSomeChains links.now.next.items (seen_lasts links.now.lasts.items walk) }
     requires chain { chain < length links.now.lasts.items }
     requires some { IsSome (last_in (seen_lasts links.now.lasts.items walk) chain) }
     ensures { (last : ℕ) × (last_in (seen_lasts links.now.lasts.items walk) chain ≡ Some last)

@@ -6,7 +6,7 @@
 ghost use Rattle.std.specs.Prelude.{◌≡◌, ◌≢◌, ℕ, ◌<◌, None, Some, length};
 ghost use Rattle.pending.specs.ChainsView.{ChangesFew, KeepsRoom, lifted, turned};
 
-use crate::chains::links::Change;
+use crate::chains::links::LinkChange;
 use crate::chains::rings;
 use crate::chains::table::Chains;
 use crate::chains::walk::Walk;
@@ -101,7 +101,7 @@ impl<T: Drop> Chains<T> {
         let Some(walk) = self.walk else {
             return;
         };
-        self.links.write(Change::Last(walk.chain, walk.at));
+        self.links.write(LinkChange::Last(walk.chain, walk.at));
         self.walk = None;
     }
 }

@@ -3,9 +3,9 @@
 use Rattle.std.specs.Prelude.{slice_index, slice_range, ◌≡◌, ℕ, ◌+◌, ◌-◌, ◌*◌, ◌<◌, ◌≤◌, List, []}
 use Rattle.std.specs.Prelude.{◌∷◌, ◌++◌, length, replicate}
 use Rattle.bio.specs.Content.{AgreeBelow, Content, gather, sector_of}
-use Rattle.sector_disk.specs.declared.runs.Held.{Held}
-use Rattle.sector_disk.specs.declared.runs.Held.TheVariants.{More, One}
-use Rattle.sector_disk.specs.declared.runs.Run.{Run}
+use Rattle.sector_disk.specs.declared.runs.StoredNumbers.{StoredNumbers}
+use Rattle.sector_disk.specs.declared.runs.StoredNumbers.TheVariants.{More, One}
+use Rattle.sector_disk.specs.declared.runs.NumberRun.{NumberRun}
 
 -- the sector that begins with `part`; the last byte of `part` fills the rest
 abbrev pub refilled : List ℕ → List ℕ
@@ -25,39 +25,39 @@ abbrev pub unpacked : List ℕ → List ℕ → List ℕ
 unpacked bytes bounds = gather (packed bytes bounds) 0 (length bounds - 1)
 
 -- the range from `from` to before `to` has at most 512 bytes, and is within `bytes`
-pub record IsPart (bytes : List ℕ) (from to : ℕ) : Type 0 where
+pub record RangeIsPacked (bytes : List ℕ) (from to : ℕ) : Type 0 where
   pub order : from ≤ to
   pub few : to ≤ from + 512
   pub within : to ≤ length bytes
 
 -- the range from each bound to the next has at most 512 bytes, and is within `bytes`
-abbrev pub AreParts : List ℕ → List ℕ → Type 0
-AreParts bytes bounds =
+abbrev pub BoundsArePacked : List ℕ → List ℕ → Type 0
+BoundsArePacked bytes bounds =
     (sector : ℕ) → sector + 1 < length bounds
-    → IsPart bytes (slice_index bounds sector) (slice_index bounds (sector + 1))
+    → RangeIsPacked bytes (slice_index bounds sector) (slice_index bounds (sector + 1))
 
 -- `bytes` and `bounds` store at most 128 sectors
 pub record ArePacked (bytes bounds : List ℕ) : Type 0 where
   pub some : 0 < length bounds
   pub few : length bounds ≤ 129
-  pub parts : AreParts bytes bounds
+  pub parts : BoundsArePacked bytes bounds
 
 -- `bytes` and `bounds` store the first `count` sectors of the image
 pub record IsPackedTo (image bytes bounds : List ℕ) (count : ℕ) : Type 0 where
   pub counted : length bounds ≡ count + 1
   pub last : slice_index bounds count ≡ length bytes
   pub few : length bytes ≤ 512 * count
-  pub parts : AreParts bytes bounds
+  pub parts : BoundsArePacked bytes bounds
   pub same : AgreeBelow count (sector_of image) (packed bytes bounds)
 
 -- The list of numbers that `Runs` stores.
 
 -- the numbers of the runs, one after another
-abbrev pub unrolled : List Run → List ℕ
+abbrev pub unrolled : List NumberRun → List ℕ
 unrolled [] = []
 unrolled (run ∷ rest) = replicate run.count run.value ++ unrolled rest
 
--- the numbers that a `Held` stores
-abbrev pub held_values : Held → List ℕ
+-- the numbers that a `StoredNumbers` stores
+abbrev pub held_values : StoredNumbers → List ℕ
 held_values (One count value) = replicate count value
 held_values (More runs) = unrolled runs.value.items

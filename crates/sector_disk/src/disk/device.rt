@@ -1,11 +1,11 @@
 //! The disk as a block device: it reads, writes, discards and flushes, and never lies.
 ghost use Rattle.std.specs.Prelude.{◌≡◌, ◌∷◌, ◌+◌, ◌≤◌, OnErr, OnOk, length};
 ghost use Rattle.sector_disk.specs.Candidates.{Puts};
-ghost use Rattle.sector_disk.specs.DiskView.{Does, HasPast, shown_of, steps_of};
-ghost use Rattle.sector_disk.specs.inside.Storage.{change_values, count_of};
+ghost use Rattle.sector_disk.specs.DiskView.{DoesOnDisk, HasPast, shown_of, past_steps};
+ghost use Rattle.sector_disk.specs.inside.Storage.{change_values, change_count};
 ghost use Rattle.sector_disk.specs.CandidateLaws.{disk_lawful};
 
-use crate::call::{Call, Change, add_call, copy_places, read_places};
+use crate::call::{PastCall, PastChange, add_call, copy_places, read_places};
 use crate::disk::SectorDisk;
 use crate::filled::FilledBytes;
 use bio::{DevError, Ms};
@@ -17,7 +17,7 @@ impl SectorDisk {
     // allocation fails, nothing is changed.
     fn open_tables(&mut self) -> Result<(), AllocError>
         ensures made { OnOk result (length self.new.newest.items ≡ self.new.sectors) }
-        ensures same { HasPast self.old self.new (steps_of self.old) }
+        ensures same { HasPast self.old self.new (past_steps self.old) }
     {
         if !self.newest.is_empty() {
             return Ok(());
@@ -29,17 +29,17 @@ impl SectorDisk {
     }
 
     // Does a write or a discard: adds it to the past. If an allocation fails, nothing is changed.
-    fn put(&mut self, first: u64, change: Change, fua: bool) -> Result<(), AllocError>
-        requires { first + count_of change ≤ self.old.sectors }
+    fn put(&mut self, first: u64, change: PastChange, fua: bool) -> Result<(), AllocError>
+        requires { first + change_count change ≤ self.old.sectors }
         ensures ok { OnOk result
             (HasPast self.old self.new
-            (Puts (change_values first change) fua ∷ steps_of self.old)) }
-        ensures err { OnErr result (HasPast self.old self.new (steps_of self.old)) }
+            (Puts (change_values first change) fua ∷ past_steps self.old)) }
+        ensures err { OnErr result (HasPast self.old self.new (past_steps self.old)) }
     {
         self.open_tables()?;
         let count = change.sectors() as usize;
         let before = copy_places(self.alloc, &self.newest, first as usize, count)?;
-        let call = Call {
+        let call = PastCall {
             first: first as u32,
             fua,
             after_flush: self.flushed,
@@ -55,7 +55,7 @@ impl SectorDisk {
 impl BlockDev for SectorDisk {
     ghost shown = { shown_of };
 
-    ghost does = { Does };
+    ghost does = { DoesOnDisk };
 
     fn sectors(&self) -> u64 {
         self.sectors
@@ -67,13 +67,13 @@ impl BlockDev for SectorDisk {
     }
 
     fn write(&mut self, now: Ms, first: u64, bytes: &[u8], fua: bool) -> Result<Ms, DevError> {
-        let change = Change::Write(FilledBytes::from_slice(self.alloc, bytes)?);
+        let change = PastChange::Write(FilledBytes::from_slice(self.alloc, bytes)?);
         self.put(first, change, fua)?;
         Ok(now)
     }
 
     fn discard(&mut self, now: Ms, first: u64, count: u64) -> Result<Ms, DevError> {
-        self.put(first, Change::Discard(count), false)?;
+        self.put(first, PastChange::Discard(count), false)?;
         Ok(now)
     }
 

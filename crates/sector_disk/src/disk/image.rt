@@ -1,10 +1,12 @@
 //! Makes a disk of zeroes or of an image, and returns a disk's image.
 ghost use Rattle.std.specs.Prelude.{◌≡◌, ◌*◌, ◌+◌, ◌/◌, ◌%◌, ◌≤◌, IfOk, IfSome, length, replicate};
-ghost use Rattle.sector_disk.specs.DiskView.{Begins, IsDiskSize, IsImageSize, shown_of};
-ghost use Rattle.sector_disk.specs.inside.Storage.{change_values, content_at, count_of};
+ghost use Rattle.sector_disk.specs.DiskView.{PastBegins, IsDiskSize, IsImageSize, shown_of};
+ghost use Rattle.sector_disk.specs.inside.Storage.{change_values, content_at, change_count};
 ghost use Rattle.bio.specs.Content.{AgreeBelow, gather, put, sector_of};
 
-use crate::call::{Call, Change, SECTOR, begins_with_image, read_places, stored, take_image};
+use crate::call::{
+    PastCall, PastChange, SECTOR, begins_with_image, read_places, stored, take_image,
+};
 use crate::disk::SectorDisk;
 use crate::filled::FilledBytes;
 use crate::pieces::Image;
@@ -12,15 +14,15 @@ use crate::runs::Runs;
 use std::alloc::{AllocError, Global};
 
 // Makes a disk whose first call is `change`, on all its sectors.
-fn make(alloc: Global, change: Change) -> Result<SectorDisk, AllocError>
-    requires { IsDiskSize (count_of change) }
+fn make(alloc: Global, change: PastChange) -> Result<SectorDisk, AllocError>
+    requires { IsDiskSize (change_count change) }
     ensures { IfOk result (λ disk.
-        Begins (count_of change) (put (change_values 0 change) (λ _. replicate 512 0))
+        PastBegins (change_count change) (put (change_values 0 change) (λ _. replicate 512 0))
         (shown_of disk)) }
 {
     let sectors = change.sectors();
     let mut calls = Vec::new(alloc);
-    calls.push(Call {
+    calls.push(PastCall {
         first: 0,
         fua: false,
         after_flush: false,
@@ -39,8 +41,7 @@ fn make(alloc: Global, change: Change) -> Result<SectorDisk, AllocError>
     })
 }
 
-// Reads all sectors of a disk into `image`.
-fn read_all(calls: &[Call], places: &[usize], image: &mut Vec<u8>)
+fn read_all(calls: &[PastCall], places: &[usize], image: &mut Vec<u8>)
     requires whole { length image.old.items % 512 ≡ 0 }
     requires few { length image.old.items / 512 ≤ 1048576 }
     ensures { image.new.items
@@ -53,7 +54,7 @@ fn read_all(calls: &[Call], places: &[usize], image: &mut Vec<u8>)
 // sectors, its bytes are reused.
 fn give_all(
     alloc: Global,
-    calls: Vec<Call>,
+    calls: Vec<PastCall>,
     places: &[usize],
     sectors: usize,
 ) -> Result<Vec<u8>, AllocError>
@@ -74,9 +75,9 @@ impl SectorDisk {
     /// Makes a disk of `sectors` sectors of zeroes, 1 to 1,048,576. Lack of memory is an error.
     pub fn new(alloc: Global, sectors: u64) -> Result<SectorDisk, AllocError>
         requires { IsDiskSize sectors }
-        ensures { IfOk result (λ disk. Begins sectors (λ _. replicate 512 0) (shown_of disk)) }
+        ensures { IfOk result (λ disk. PastBegins sectors (λ _. replicate 512 0) (shown_of disk)) }
     {
-        make(alloc, Change::Discard(sectors))
+        make(alloc, PastChange::Discard(sectors))
     }
 
     /// Makes a disk of an image: 1 to 1,048,576 whole sectors. The bytes aren't copied. Lack of
@@ -84,9 +85,9 @@ impl SectorDisk {
     pub fn from_bytes(alloc: Global, bytes: Vec<u8>) -> Result<SectorDisk, AllocError>
         requires { IsImageSize (length bytes.items) }
         ensures { IfOk result (λ disk.
-            Begins (length bytes.items / 512) (sector_of bytes.items) (shown_of disk)) }
+            PastBegins (length bytes.items / 512) (sector_of bytes.items) (shown_of disk)) }
     {
-        make(alloc, Change::Write(FilledBytes::from_vec(bytes)))
+        make(alloc, PastChange::Write(FilledBytes::from_vec(bytes)))
     }
 
     /// Makes a disk of an image: 1 to 1,048,576 whole sectors. The image isn't copied. Lack of
@@ -94,9 +95,9 @@ impl SectorDisk {
     pub fn from_image(alloc: Global, image: Image) -> Result<SectorDisk, AllocError>
         requires { IsImageSize (length image) }
         ensures { IfOk result (λ disk.
-            Begins (length image / 512) (sector_of image) (shown_of disk)) }
+            PastBegins (length image / 512) (sector_of image) (shown_of disk)) }
     {
-        make(alloc, Change::Image(image))
+        make(alloc, PastChange::Image(image))
     }
 
     /// Returns the bytes of `count` sectors from `first` on, if memory has them one after another.

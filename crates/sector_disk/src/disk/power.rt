@@ -1,7 +1,7 @@
 //! Power failure: `crash` leaves in each unsynced sector the candidate that its pick names.
 ghost use Rattle.std.specs.Prelude.{◌≡◌, ◌≤◌, length, vec_capacity};
 ghost use Rattle.sector_disk.specs.Candidates.{left_by};
-ghost use Rattle.sector_disk.specs.DiskView.{Begins, cache_of, shown_of};
+ghost use Rattle.sector_disk.specs.DiskView.{PastBegins, cache_of, shown_of};
 
 use crate::choice::choose;
 use crate::disk::SectorDisk;
@@ -33,7 +33,7 @@ impl SectorDisk {
     ///
     /// Takes no memory and frees none: the calls before the crash stay stored.
     pub fn crash(&mut self, picks: &[u64])
-        ensures { Begins (shown_of self.old).size (left_by (cache_of self.old) picks.now)
+        ensures { PastBegins (shown_of self.old).size (left_by (cache_of self.old) picks.now)
             (shown_of self.new) }
     {
         let sectors = self.newest.len();

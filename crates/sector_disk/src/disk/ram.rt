@@ -4,7 +4,7 @@ ghost use Rattle.std.proofs.Props.{props};
 ghost use Rattle.std.specs.Prelude.{◌<◌};
 ghost use Rattle.sector_disk.specs.inside.Storage.{IsRam};
 
-use crate::call::Call;
+use crate::call::PastCall;
 use std::alloc::Global;
 
 mod device;
@@ -19,7 +19,7 @@ pub struct RamDisk {
     alloc: Global,
     sectors: u64,
     // The image, and then the calls that replaced no piece of it.
-    calls: Vec<Call>,
+    calls: Vec<PastCall>,
     // For each sector, the index of the call whose value it has.
     newest: Vec<usize>,
     // The number of calls that failed with Io.

@@ -8,13 +8,13 @@ use test_devices::Folder;
 
 /// The status of a command, its standard output and its standard error.
 #[derive(Drop)]
-pub struct Told {
+pub struct CommandOutput {
     pub status: u8,
     pub out: String,
     pub err: String,
 }
 
-impl Told {
+impl CommandOutput {
     /// Returns whether the command ended with this status, and printed exactly these texts.
     pub fn is(&self, status: u8, out: &str, err: &str) -> bool {
         self.status == status && self.out.as_str() == out && self.err.as_str() == err
@@ -24,15 +24,15 @@ impl Told {
 /// A command line with its expected output and error. The expected status is 1 if there is an
 /// error, else 0.
 #[derive(Clone, Copy)]
-pub struct Wanted<'a> {
+pub struct WantedOutput<'a> {
     pub line: &'a str,
     pub out: &'a str,
     pub err: &'a str,
 }
 
-impl Wanted<'_> {
+impl WantedOutput<'_> {
     /// Returns whether the command printed what was expected, and ended with the expected status.
-    pub fn is_met(&self, told: &Told) -> bool {
+    pub fn is_met(&self, told: &CommandOutput) -> bool {
         told.is(u8::from(!self.err.is_empty()), self.out, self.err)
     }
 }
@@ -44,7 +44,7 @@ pub fn ask<H: Threads + Wait + Sync>(
     alloc: Global,
     line: &str,
     folder: &mut Folder,
-) -> Result<Told, AllocError> {
+) -> Result<CommandOutput, AllocError> {
     let words = words_of(alloc, line)?;
     let mut session = Session {
         alloc,
@@ -54,7 +54,7 @@ pub fn ask<H: Threads + Wait + Sync>(
         err: Vec::new(alloc),
     };
     let ended = execute(rt, &words, &mut session);
-    Ok(Told {
+    Ok(CommandOutput {
         status: ended.exit.status(),
         out: text_of(alloc, session.out),
         err: text_of(alloc, session.err),
@@ -75,7 +75,6 @@ fn text_of(alloc: Global, bytes: Vec<u8>) -> String {
     String::from_utf8(bytes).unwrap_or(String::new(alloc))
 }
 
-/// Returns a folder with a script.
 pub fn folder_of(alloc: Global, script: &str) -> Result<Folder, AllocError> {
     let mut folder = Folder::new(alloc);
     folder.put(alloc, "script", Vec::from_slice(alloc, script.as_bytes())?)?;

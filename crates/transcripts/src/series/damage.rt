@@ -1,6 +1,6 @@
 // Series: what each command prints for logs that are cut short, or have one wrong byte.
-use crate::series::asking::{Wanted, ask, folder_of};
-use crate::series::faults::{Faults, LOG_FAULTS, REPLAY_FAULTS};
+use crate::series::asking::{WantedOutput, ask, folder_of};
+use crate::series::faults::{FaultCounts, LOG_FAULTS, REPLAY_FAULTS};
 use crate::series::report::{Report, check};
 use crate::series::targets;
 use std::alloc::{AllocError, Global};
@@ -54,14 +54,14 @@ struct Damage {
 // How the commands ended for all images: `list`, `status`, `replay` of all entries that the super
 // block counts, and `replay` of the last flush.
 #[derive(Drop)]
-struct Seen {
+struct DamageCounts {
     images: u64,
     // How many damages don't change the log; it is read for the first of them only.
     same: u64,
-    listed: Faults,
-    status: Faults,
-    counted: Faults,
-    flushed: Faults,
+    listed: FaultCounts,
+    status: FaultCounts,
+    counted: FaultCounts,
+    flushed: FaultCounts,
 }
 
 /// Runs three series. The first has the log of `FLUSHED`, cut to each length, the second the log of
@@ -144,17 +144,17 @@ fn check_cut<H: Threads + Wait + Sync>(
         _ => ("", ""),
     };
     let wanted = [
-        Wanted {
+        WantedOutput {
             line: "list log",
             out: listed.as_str(),
             err: fault,
         },
-        Wanted {
+        WantedOutput {
             line: "status log",
             out: status,
             err: fault,
         },
-        Wanted {
+        WantedOutput {
             line: "replay log zeroes out entries:3",
             out: replayed,
             err: stop,
@@ -175,13 +175,13 @@ fn run_damages<H: Threads + Wait + Sync>(
     let before = report.differ();
     let mut folder = Folder::new(alloc);
     folder.put(alloc, "zeroes", vec![in alloc; 0; DATA_BYTES]?)?;
-    let mut seen = Seen {
+    let mut seen = DamageCounts {
         images: 0,
         same: 0,
-        listed: Faults::new(LOG_FAULTS),
-        status: Faults::new(LOG_FAULTS),
-        counted: Faults::new(REPLAY_FAULTS),
-        flushed: Faults::new(REPLAY_FAULTS),
+        listed: FaultCounts::new(LOG_FAULTS),
+        status: FaultCounts::new(LOG_FAULTS),
+        counted: FaultCounts::new(REPLAY_FAULTS),
+        flushed: FaultCounts::new(REPLAY_FAULTS),
     };
     for place in 0..DAMAGED_BYTES {
         damage_place(rt, alloc, &log, place, &mut folder, &mut seen, report)?;
@@ -196,7 +196,7 @@ fn damage_place<H: Threads + Wait + Sync>(
     log: &[u8],
     place: usize,
     folder: &mut Folder,
-    seen: &mut Seen,
+    seen: &mut DamageCounts,
     report: &mut Report,
 ) -> Result<(), AllocError> {
     for value in VALUES {
@@ -233,7 +233,7 @@ fn read_damaged<H: Threads + Wait + Sync>(
     log: &[u8],
     damage: Damage,
     folder: &mut Folder,
-    seen: &mut Seen,
+    seen: &mut DamageCounts,
     report: &mut Report,
 ) -> Result<(), AllocError> {
     let replay = damage_log(alloc, log, damage, folder)?;
@@ -275,7 +275,7 @@ fn read_damaged<H: Threads + Wait + Sync>(
     )
 }
 
-impl Seen {
+impl DamageCounts {
     // Counts an image. Returns false if the damage doesn't change the log, and such an image was
     // read before.
     fn is_new(&mut self, log: &[u8], damage: Damage) -> bool {
@@ -305,7 +305,7 @@ fn read<H: Threads + Wait + Sync>(
     line: &str,
     damage: Damage,
     folder: &mut Folder,
-    faults: &mut Faults,
+    faults: &mut FaultCounts,
     report: &mut Report,
 ) -> Result<(), AllocError> {
     let told = ask(rt, alloc, line, folder)?;
@@ -317,7 +317,12 @@ fn read<H: Threads + Wait + Sync>(
 }
 
 // Reports how the commands ended.
-fn tell(alloc: Global, seen: &Seen, differ: u64, report: &mut Report) -> Result<(), AllocError> {
+fn tell(
+    alloc: Global,
+    seen: &DamageCounts,
+    differ: u64,
+    report: &mut Report,
+) -> Result<(), AllocError> {
     let line = format!(in alloc;
         "changed bytes: {} images, {} of them the log as it was and read once, {differ} differ",
         seen.images, seen.same

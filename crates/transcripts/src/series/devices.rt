@@ -1,7 +1,7 @@
 // Series: a script is recorded with each stack of layers under its log, a fuse on top, and a crash
 // at its end. What `record` prints and what the log lists is compared with the expected results.
-use crate::series::asking::{Told, ask, folder_of};
-use crate::series::layers::{LATE, Layer, STACKS, WHOLE_RUN, passed, stack_of};
+use crate::series::asking::{CommandOutput, ask, folder_of};
+use crate::series::layers::{LATE, LogLayer, STACKS, WHOLE_RUN, passed, stack_of};
 use crate::series::report::Report;
 use std::alloc::{AllocError, Global};
 use std::sync::Wait;
@@ -33,7 +33,7 @@ const STATUSES: [&str; 8] = [
 
 // How a case ends.
 #[derive(Clone, Copy)]
-enum Ending {
+enum CaseEnd {
     // It doesn't crash.
     Plain,
     // It crashes; each sector then holds its durable value.
@@ -47,16 +47,16 @@ enum Ending {
 // the events, in milliseconds; and the ending.
 #[derive(Drop)]
 struct Case {
-    layers: Vec<Layer>,
+    layers: Vec<LogLayer>,
     fuse: Option<u64>,
     moment: u64,
-    ending: Ending,
+    ending: CaseEnd,
 }
 
 // The counts of all cases: how many left a log, and how many of the logs list n entries, for each
 // n.
 #[derive(Drop)]
-struct Seen {
+struct DeviceCounts {
     cases: u64,
     logs: u64,
     by_entries: [u64; 4],
@@ -68,7 +68,7 @@ pub fn run<H: Threads + Wait + Sync>(
     alloc: Global,
     report: &mut Report,
 ) -> Result<(), AllocError> {
-    let mut seen = Seen {
+    let mut seen = DeviceCounts {
         cases: 0,
         logs: 0,
         by_entries: [0; 4],
@@ -93,7 +93,7 @@ fn run_stack<H: Threads + Wait + Sync>(
     alloc: Global,
     number: u64,
     report: &mut Report,
-    seen: &mut Seen,
+    seen: &mut DeviceCounts,
 ) -> Result<(), AllocError> {
     for fuse in 0..=WHOLE_RUN {
         run_fuse(rt, alloc, number, fuse, report, seen)?;
@@ -108,13 +108,13 @@ fn run_fuse<H: Threads + Wait + Sync>(
     number: u64,
     fuse: u64,
     report: &mut Report,
-    seen: &mut Seen,
+    seen: &mut DeviceCounts,
 ) -> Result<(), AllocError> {
     let ends = [
-        (0, Ending::Crash),
-        (0, Ending::Picked),
-        (LATE, Ending::Crash),
-        (LATE, Ending::Picked),
+        (0, CaseEnd::Crash),
+        (0, CaseEnd::Picked),
+        (LATE, CaseEnd::Crash),
+        (LATE, CaseEnd::Picked),
     ];
     for (moment, ending) in ends {
         let case = Case {
@@ -134,7 +134,7 @@ fn run_case<H: Threads + Wait + Sync>(
     alloc: Global,
     case: &Case,
     report: &mut Report,
-    seen: &mut Seen,
+    seen: &mut DeviceCounts,
 ) -> Result<(), AllocError> {
     let script = script_of(alloc, case)?;
     let mut folder = folder_of(alloc, script.as_str())?;
@@ -153,7 +153,7 @@ fn run_case<H: Threads + Wait + Sync>(
     Ok(())
 }
 
-impl Seen {
+impl DeviceCounts {
     // Counts a log with `entries` entries.
     fn count(&mut self, entries: usize) {
         if let Some(count) = self.by_entries.get_mut(entries) {
@@ -163,11 +163,10 @@ impl Seen {
 }
 
 // Returns how many entries a listing has.
-fn entries_of(listed: &Told) -> usize {
+fn entries_of(listed: &CommandOutput) -> usize {
     listed.out.as_str().matches('\n').count().saturating_sub(1)
 }
 
-// Returns the script of a case.
 fn script_of(alloc: Global, case: &Case) -> Result<String, AllocError> {
     let mut text = String::from_str(alloc, "data 16\nlog 32\n")?;
     push_layers(&mut text, &case.layers, case.fuse)?;
@@ -179,7 +178,11 @@ fn script_of(alloc: Global, case: &Case) -> Result<String, AllocError> {
 }
 
 // Appends the lines of the log's layers and of the fuse over them.
-fn push_layers(text: &mut String, layers: &[Layer], fuse: Option<u64>) -> Result<(), AllocError> {
+fn push_layers(
+    text: &mut String,
+    layers: &[LogLayer],
+    fuse: Option<u64>,
+) -> Result<(), AllocError> {
     for layer in layers {
         writeln!(text, "log-layer {}", layer.line())?;
     }
@@ -190,9 +193,9 @@ fn push_layers(text: &mut String, layers: &[Layer], fuse: Option<u64>) -> Result
 }
 
 // Appends the messages that make block 3 of each dust layer fail one write.
-fn push_messages(text: &mut String, layers: &[Layer]) -> Result<(), AllocError> {
+fn push_messages(text: &mut String, layers: &[LogLayer]) -> Result<(), AllocError> {
     for (below, layer) in layers.iter().enumerate() {
-        if *layer == Layer::Dust {
+        if *layer == LogLayer::Dust {
             let number = below.saturating_add(1);
             writeln!(text, "message log {number} addbadblock 3 1")?;
             writeln!(text, "message log {number} enable")?;
@@ -202,11 +205,11 @@ fn push_messages(text: &mut String, layers: &[Layer]) -> Result<(), AllocError> 
 }
 
 // Appends the line of the crash, unless the case has none.
-fn push_ending(text: &mut String, ending: Ending) -> Result<(), AllocError> {
+fn push_ending(text: &mut String, ending: CaseEnd) -> Result<(), AllocError> {
     let picks = match ending {
-        Ending::Plain => return Ok(()),
-        Ending::Crash => 0,
-        Ending::Picked => 64,
+        CaseEnd::Plain => return Ok(()),
+        CaseEnd::Crash => 0,
+        CaseEnd::Picked => 64,
     };
     text.push_str("crash")?;
     for _ in 0..picks {
@@ -221,7 +224,7 @@ fn push_ending(text: &mut String, ending: Ending) -> Result<(), AllocError> {
 fn check_told(
     alloc: Global,
     script: &str,
-    told: &Told,
+    told: &CommandOutput,
     passed: u64,
     report: &mut Report,
 ) -> Result<(), AllocError> {
@@ -245,7 +248,7 @@ fn check_told(
 fn check_listed(
     alloc: Global,
     script: &str,
-    listed: &Told,
+    listed: &CommandOutput,
     passed: u64,
     report: &mut Report,
 ) -> Result<(), AllocError> {
@@ -276,15 +279,15 @@ fn tables<H: Threads + Wait + Sync>(
             layers: Vec::new(alloc),
             fuse: Some(calls),
             moment: 0,
-            ending: Ending::Plain,
+            ending: CaseEnd::Plain,
         };
         row(rt, alloc, name.as_str(), &case, report)?;
     }
     let case = Case {
-        layers: vec![in alloc; Layer::Dust]?,
+        layers: vec![in alloc; LogLayer::Dust]?,
         fuse: None,
         moment: 0,
-        ending: Ending::Plain,
+        ending: CaseEnd::Plain,
     };
     row(rt, alloc, "bad block 3", &case, report)
 }
@@ -326,7 +329,7 @@ fn listed_text<H: Threads + Wait + Sync>(
 }
 
 // Returns the last line of the error output, or of the output if there is no error.
-fn last_line(told: &Told) -> &str {
+fn last_line(told: &CommandOutput) -> &str {
     let text = if told.err.is_empty() {
         told.out.as_str()
     } else {

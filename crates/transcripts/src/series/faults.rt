@@ -23,16 +23,16 @@ pub const REPLAY_FAULTS: usize = 10;
 
 /// How many commands ended without a fault, and how many with each of the first `known` faults.
 #[derive(Drop)]
-pub struct Faults {
+pub struct FaultCounts {
     known: usize,
     whole: u64,
     by_fault: [u64; 10],
 }
 
-impl Faults {
+impl FaultCounts {
     /// Returns counts of 0. Only the first `known` faults are possible.
-    pub fn new(known: usize) -> Faults {
-        Faults {
+    pub fn new(known: usize) -> FaultCounts {
+        FaultCounts {
             known,
             whole: 0,
             by_fault: [0; 10],
@@ -68,7 +68,7 @@ fn fault_of(err: &str) -> &str {
     }
 }
 
-impl fmt::Display for Faults {
+impl fmt::Display for FaultCounts {
     fn fmt<W: fmt::Write>(&self, f: &mut fmt::Formatter<W>) -> fmt::Result {
         write!(f, "{} with no fault", self.whole)?;
         for (name, count) in FAULTS.iter().zip(self.by_fault.iter()) {

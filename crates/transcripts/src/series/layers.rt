@@ -3,7 +3,7 @@ use std::alloc::{AllocError, Global};
 
 /// A layer over a log's disk of 32 sectors.
 #[derive(Clone, Copy, PartialEq, Eq)]
-pub enum Layer {
+pub enum LogLayer {
     Linear,
     Error,
     /// It is up for ten seconds, then down for five.
@@ -14,12 +14,12 @@ pub enum Layer {
 }
 
 // The layers of which the stacks are made.
-const LAYERS: [Layer; 5] = [
-    Layer::Linear,
-    Layer::Error,
-    Layer::Flakey,
-    Layer::Dust,
-    Layer::Delay,
+const LAYERS: [LogLayer; 5] = [
+    LogLayer::Linear,
+    LogLayer::Error,
+    LogLayer::Flakey,
+    LogLayer::Dust,
+    LogLayer::Delay,
 ];
 
 /// The number of stacks with at most three layers: 1 + 5 + 25 + 125.
@@ -36,15 +36,15 @@ pub const LATE: u64 = 12_000;
 /// the three entries: a flush, and a write of the super block.
 pub const WHOLE_RUN: u64 = 7;
 
-impl Layer {
+impl LogLayer {
     /// Returns the layer's table line.
     pub fn line(self) -> &'static str {
         match self {
-            Layer::Linear => "0 32 linear disk 0",
-            Layer::Error => "0 32 error",
-            Layer::Flakey => "0 32 flakey disk 0 10 5",
-            Layer::Dust => "0 32 dust disk 0 512",
-            Layer::Delay => "0 32 delay disk 0 1 disk 0 2 disk 0 3",
+            LogLayer::Linear => "0 32 linear disk 0",
+            LogLayer::Error => "0 32 error",
+            LogLayer::Flakey => "0 32 flakey disk 0 10 5",
+            LogLayer::Dust => "0 32 dust disk 0 512",
+            LogLayer::Delay => "0 32 delay disk 0 1 disk 0 2 disk 0 3",
         }
     }
 
@@ -53,16 +53,16 @@ impl Layer {
     // which is bad in a dust layer.
     fn passes(self, moment: u64) -> u64 {
         match self {
-            Layer::Linear | Layer::Delay => WHOLE_RUN,
-            Layer::Error => 0,
-            Layer::Flakey => { if moment == LATE { 1 } else { WHOLE_RUN } }
-            Layer::Dust => 3,
+            LogLayer::Linear | LogLayer::Delay => WHOLE_RUN,
+            LogLayer::Error => 0,
+            LogLayer::Flakey => { if moment == LATE { 1 } else { WHOLE_RUN } }
+            LogLayer::Dust => 3,
         }
     }
 }
 
 /// Returns how many of a script's calls pass these layers and a fuse over them until one fails.
-pub fn passed(layers: &[Layer], moment: u64, fuse: Option<u64>) -> u64 {
+pub fn passed(layers: &[LogLayer], moment: u64, fuse: Option<u64>) -> u64 {
     let mut passed = fuse.unwrap_or(WHOLE_RUN).min(WHOLE_RUN);
     for layer in layers {
         passed = passed.min(layer.passes(moment));
@@ -72,7 +72,7 @@ pub fn passed(layers: &[Layer], moment: u64, fuse: Option<u64>) -> u64 {
 
 /// Returns stack number `number`, which is below `STACKS`. Its layers are the number's digits in
 /// base five, from the lowest on, with the digits one to five.
-pub fn stack_of(alloc: Global, number: u64) -> Result<Vec<Layer>, AllocError> {
+pub fn stack_of(alloc: Global, number: u64) -> Result<Vec<LogLayer>, AllocError> {
     let mut layers = Vec::new(alloc);
     let mut rest = number;
     for _ in 0..DEPTH {
@@ -86,9 +86,9 @@ pub fn stack_of(alloc: Global, number: u64) -> Result<Vec<Layer>, AllocError> {
 }
 
 // Returns the layer at index `number` of the five.
-fn layer_at(number: u64) -> Layer {
+fn layer_at(number: u64) -> LogLayer {
     LAYERS
         .get(number as usize)
         .copied()
-        .unwrap_or(Layer::Linear)
+        .unwrap_or(LogLayer::Linear)
 }

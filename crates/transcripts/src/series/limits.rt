@@ -1,5 +1,5 @@
 // Series: each limit of the program is reached, and nothing is refused.
-use crate::series::asking::{Wanted, folder_of};
+use crate::series::asking::{WantedOutput, folder_of};
 use crate::series::most_seats::check_recorder;
 use crate::series::report::{Report, check};
 use std::alloc::{AllocError, Global};
@@ -79,7 +79,7 @@ fn check_lines<H: Threads + Wait + Sync>(
 ) -> Result<(), AllocError> {
     let mut wanted = Vec::new(alloc);
     for (line, out) in lines.iter().copied() {
-        wanted.push(Wanted { line, out, err: "" })?;
+        wanted.push(WantedOutput { line, out, err: "" })?;
     }
     check(rt, alloc, case, &wanted, folder, report)
 }
@@ -170,7 +170,7 @@ fn check_open<H: Threads + Wait + Sync>(
     push_results(ended, &mut texts.told)?;
     push_busy(ended, &mut texts.other)?;
     let mut folder = folder_of(alloc, texts.script.as_str())?;
-    let wanted = [Wanted {
+    let wanted = [WantedOutput {
         line: "--explain record script log",
         out: texts.told.as_str(),
         err: texts.other.as_str(),

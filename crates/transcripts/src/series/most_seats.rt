@@ -3,7 +3,7 @@ ghost use Rattle.std.specs.Prelude.{◌≡◌, ℕ};
 ghost use Rattle.lock_state.specs.PlacedItems.{ground_of};
 ghost use Rattle.sector_disk.specs.DiskView.{shown_of};
 
-use crate::series::asking::Told;
+use crate::series::asking::CommandOutput;
 use crate::series::report::Report;
 use bio::Status;
 use board::Names;
@@ -28,7 +28,7 @@ pub fn check_recorder(alloc: Global, report: &mut Report) -> Result<(), AllocErr
     let unnamed = Unnamed::new(alloc, MOST)?;
     let seen = start_most::<Brand>(alloc, unnamed, device, log);
     if seen != Some((MOST as usize, MOST as usize)) {
-        let told = Told {
+        let told = CommandOutput {
             status: 0,
             out: format!(in alloc; "{seen:?}\n")?,
             err: String::new(alloc),

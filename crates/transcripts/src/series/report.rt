@@ -1,5 +1,5 @@
 // What is printed for the series, and how many of their cases differ.
-use crate::series::asking::{Told, Wanted, ask};
+use crate::series::asking::{CommandOutput, WantedOutput, ask};
 use std::alloc::{AllocError, Global};
 use std::sync::Wait;
 use std::thread::Threads;
@@ -39,7 +39,12 @@ impl Report {
     }
 
     /// Counts a case that differs. Appends the case, what was printed and what was expected.
-    pub fn differs(&mut self, case: &str, told: &Told, wanted: &str) -> Result<(), AllocError> {
+    pub fn differs(
+        &mut self,
+        case: &str,
+        told: &CommandOutput,
+        wanted: &str,
+    ) -> Result<(), AllocError> {
         self.differ = self.differ.saturating_add(1);
         writeln!(self.text, "differs:\n{case}\ntold [{}]:", told.status)?;
         self.text.push_str(told.out.as_str())?;
@@ -54,7 +59,7 @@ pub fn check<H: Threads + Wait + Sync>(
     rt: &H,
     alloc: Global,
     case: &str,
-    wanted: &[Wanted<'_>],
+    wanted: &[WantedOutput<'_>],
     folder: &mut Folder,
     report: &mut Report,
 ) -> Result<(), AllocError> {

@@ -1,7 +1,7 @@
 // Series of scripts for `run`. Four seats write and mark at once, with a fuse under the log; what
 // is printed and listed is compared with the expected results. One seat has thousands of entries
 // and waits for each. Two seats mark at once, until their marks are mixed in the log.
-use crate::series::asking::{Told, ask, folder_of};
+use crate::series::asking::{CommandOutput, ask, folder_of};
 use crate::series::report::Report;
 use std::alloc::{AllocError, Global};
 use std::sync::Wait;
@@ -66,8 +66,8 @@ fn check_fuse(
     alloc: Global,
     calls: u64,
     has_log: bool,
-    told: &Told,
-    listed: &Told,
+    told: &CommandOutput,
+    listed: &CommandOutput,
     report: &mut Report,
 ) -> Result<(), AllocError> {
     let case = format!(in alloc; "four seats, fuse of {calls} calls")?;
@@ -142,7 +142,6 @@ fn run_two<H: Threads + Wait + Sync>(
     )
 }
 
-// Returns the script of the two seats.
 fn script_of_two(alloc: Global) -> Result<String, AllocError> {
     let mut text = String::from_str(alloc, "data 16\nlog 2002\nseats 2\n")?;
     for _mark in 0..MARKS {
@@ -195,7 +194,7 @@ fn marks_of(calls: u64) -> u64 {
 
 // Returns whether `run` printed what it must: each seat has 100 writes done, and its mark is logged
 // or not logged. The number of logged marks is that of `marks_of`, and logging ended.
-fn is_told(alloc: Global, told: &Told, calls: u64) -> Result<bool, AllocError> {
+fn is_told(alloc: Global, told: &CommandOutput, calls: u64) -> Result<bool, AllocError> {
     let mut logged: u64 = 0;
     let mut is_good = told.status == 3 && told.err.is_empty();
     for (seat, line) in (0..SEATS).zip(told.out.as_str().split('\n')) {
@@ -221,7 +220,11 @@ fn seat_line(alloc: Global, seat: u64, is_logged: bool) -> Result<String, AllocE
 
 // Returns whether `list` prints no fault, and prints the mark of each seat that reported its mark
 // as logged.
-fn lists_marks(alloc: Global, told: &Told, listed: &Told) -> Result<bool, AllocError> {
+fn lists_marks(
+    alloc: Global,
+    told: &CommandOutput,
+    listed: &CommandOutput,
+) -> Result<bool, AllocError> {
     let mut is_good = listed.status == 0 && listed.err.is_empty();
     for (seat, line) in (0..SEATS).zip(told.out.as_str().split('\n')) {
         if is_logged(alloc, line, seat)? {

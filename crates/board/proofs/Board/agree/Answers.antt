@@ -1,6 +1,6 @@
 use Rattle.std.proofs.Common.{sym, ap, ◌∙◌, arith}
 use Rattle.atomic_table.specs.Table.{Me}
-use Rattle.board.specs.declared.rule.Knows.{Knows}
+use Rattle.board.specs.declared.rule.BoardPass.{BoardPass}
 use Rattle.board.proofs.Moves.{alone, compares, splits, joins}
 use Rattle.board.proofs.Board.agree.Goals as goal
 
@@ -15,7 +15,7 @@ join_seat-requires g c =
     let s = c.split_seat-told.ensures in (
       c.writer.invariant.0 ∙ sym b.named,
       s.3 ∙ c.mine.invariant.0 ∙ sym b.named,
-      ap (λ (m : Me (Unit {0}) Knows). m.1) s.4,
+      ap (λ (m : Me (Unit {0}) BoardPass). m.1) s.4,
       omega (arith, b.one_word),
       joins _ _ _ _,
     )
@@ -28,7 +28,7 @@ load-requires g c =
       j.0 ∙ i.0 ∙ sym b.named,
       omega (arith, b.one_word),
       compares _ _ _ _ (alone c.join_seat.new.seat.me
-          (ap (λ (m : Me (Unit {0}) Knows). m.1) j.2 ∙ ap (λ (m : Me (Unit {0}) Knows). m.1) i.1))
-          (ap (λ (m : Me (Unit {0}) Knows). m.0.writes) j.2
-          ∙ ap (λ (m : Me (Unit {0}) Knows). m.0.writes) i.1),
+          (ap (λ (m : Me (Unit {0}) BoardPass). m.1) j.2 ∙ ap (λ (m : Me (Unit {0}) BoardPass). m.1) i.1))
+          (ap (λ (m : Me (Unit {0}) BoardPass). m.0.writes) j.2
+          ∙ ap (λ (m : Me (Unit {0}) BoardPass). m.0.writes) i.1),
     )

@@ -1,6 +1,6 @@
 use Rattle.std.proofs.Common.{sym, ◌∙◌, arith}
-use Rattle.board.specs.Posts.{last_of, writer_of}
-use Rattle.board.specs.PostLaws.{last_of-push}
+use Rattle.board.specs.Published.{last_of, writer_pass}
+use Rattle.board.specs.PublishedLaws.{last_of-push}
 use Rattle.board.proofs.Moves.{publishes, published_is}
 use Rattle.board.proofs.Board.publish.Goals as goal
 
@@ -15,4 +15,4 @@ store-requires g c =
     )
 
 pub invariant_of-writer : goal.invariant_of-writer
-invariant_of-writer g c = grind (arith, published_is, writer_of, last_of, last_of-push)
+invariant_of-writer g c = grind (arith, published_is, writer_pass, last_of, last_of-push)

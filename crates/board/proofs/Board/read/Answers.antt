@@ -1,7 +1,7 @@
 use Rattle.std.proofs.Common.{List, sym, ◌∙◌, subst, arith}
 use Rattle.bio.specs.declared.outcome.Status.{Status}
-use Rattle.board.specs.Posts.{last_of, MayFollow}
-use Rattle.board.specs.PostLaws.{start_follows, last_fits}
+use Rattle.board.specs.Published.{last_of, MayFollow}
+use Rattle.board.specs.PublishedLaws.{start_follows, last_fits}
 use Rattle.board.proofs.Moves.{looks}
 use Rattle.board.proofs.Board.read.Goals as goal
 

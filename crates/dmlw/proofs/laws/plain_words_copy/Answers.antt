@@ -3,7 +3,7 @@ use Rattle.clap.proofs.OnLiterals.{clap_on_literals}
 use Rattle.clap.specs.Words.{Text}
 use Rattle.dmlw_commands.specs.declared.ending.Ended.{Ended}
 use Rattle.refusals.specs.Errors.{memory_error}
-use Rattle.dmlw_commands.specs.Ends.{Ends, exit_by}
+use Rattle.dmlw_commands.specs.Ends.{EndsAsCommand, exit_by}
 use Rattle.dmlw_commands.specs.LogCopies.{Copies, file}
 use Rattle.dmlw_commands.specs.Seen.{Seen}
 use Rattle.dmlw.specs.Commands.{IsSectorCount}
@@ -17,7 +17,7 @@ use Rattle.dmlw.proofs.laws.plain_words_copy.Goals as goal
 
 copy_ends : (log out word : Text) (sectors : ℕ) (old new : Seen) (ended : Ended)
     → IsSectorCount word sectors → DoesPlain names.Copy (log ∷ out ∷ word ∷ []) old new ended
-    → Ends (Copies log out sectors) exit_by false old new ended
+    → EndsAsCommand (Copies log out sectors) exit_by false old new ended
 copy_ends log out word sectors old new ended is
     (tasks.Copy files asked, (is_log, is_out, found, is_word, named), ends) =
     rw (

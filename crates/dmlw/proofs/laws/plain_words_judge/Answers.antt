@@ -3,7 +3,7 @@ use Rattle.clap.proofs.OnLiterals.{clap_on_literals}
 use Rattle.clap.specs.Words.{Text}
 use Rattle.dmlw_commands.specs.declared.ending.Ended.{Ended}
 use Rattle.refusals.specs.Words.{IsNumber}
-use Rattle.dmlw_commands.specs.Ends.{Ends}
+use Rattle.dmlw_commands.specs.Ends.{EndsAsCommand}
 use Rattle.dmlw_commands.specs.Judgements.{AnswersOf, exit_answered, verdict_meaning}
 use Rattle.dmlw_commands.specs.Seen.{Seen}
 use Rattle.dmlw.specs.declared.program.Name.TheVariants as names
@@ -16,7 +16,7 @@ use Rattle.dmlw.proofs.laws.plain_words_judge.Goals as goal
 
 judge_ends : (script m image : Text) (moment : ℕ) (old new : Seen) (ended : Ended)
     → IsNumber m moment → DoesPlain names.Judge (script ∷ m ∷ image ∷ []) old new ended
-    → Ends (AnswersOf verdict_meaning script moment image) (exit_answered verdict_meaning) false
+    → EndsAsCommand (AnswersOf verdict_meaning script moment image) (exit_answered verdict_meaning) false
     old new ended
 judge_ends script m image moment old new ended number
     (tasks.Judge s n i, (is_script, is_image, word, is_word, named), ends) =

@@ -2,7 +2,7 @@ use Rattle.std.proofs.Common.{[], ◌∷◌, false, refl}
 use Rattle.clap.proofs.OnLiterals.{clap_on_literals}
 use Rattle.clap.specs.Words.{Text}
 use Rattle.dmlw_commands.specs.declared.ending.Ended.{Ended}
-use Rattle.dmlw_commands.specs.Ends.{Ends, exit_by}
+use Rattle.dmlw_commands.specs.Ends.{EndsAsCommand, exit_by}
 use Rattle.dmlw_commands.specs.Lists.{ListsImage, ShowsLog}
 use Rattle.dmlw_commands.specs.Seen.{Seen}
 use Rattle.dmlw.specs.declared.program.Name.TheVariants as names
@@ -13,7 +13,7 @@ use Rattle.dmlw.proofs.laws.plain_words_list.Goals as goal
 
 list_ends : (log : Text) (old new : Seen) (ended : Ended)
     → DoesPlain names.List (log ∷ []) old new ended
-    → Ends (ShowsLog ListsImage log) exit_by false old new ended
+    → EndsAsCommand (ShowsLog ListsImage log) exit_by false old new ended
 list_ends log old new ended (tasks.List l, is, ends) = rw (same_some log l.now is) ends
 list_ends log old new ended (tasks.Show error, is, ends) =
     showing_refused ListsImage log old new ended (memory_ends error old new ended is ends)

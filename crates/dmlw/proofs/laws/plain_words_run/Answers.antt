@@ -2,8 +2,8 @@ use Rattle.std.proofs.Common.{[], ◌∷◌, false, refl}
 use Rattle.clap.proofs.OnLiterals.{clap_on_literals}
 use Rattle.clap.specs.Words.{Text}
 use Rattle.dmlw_commands.specs.declared.ending.Ended.{Ended}
-use Rattle.dmlw_commands.specs.Ends.{Ends, exit_after}
-use Rattle.dmlw_commands.specs.Records.{Records, of_seats}
+use Rattle.dmlw_commands.specs.Ends.{EndsAsCommand, exit_after}
+use Rattle.dmlw_commands.specs.Records.{RecordsScript, of_seats}
 use Rattle.dmlw_commands.specs.Seen.{Seen}
 use Rattle.dmlw.specs.declared.program.Name.TheVariants as names
 use Rattle.dmlw.specs.declared.task.Task.TheVariants as tasks
@@ -13,7 +13,7 @@ use Rattle.dmlw.proofs.laws.plain_words_run.Goals as goal
 
 run_ends : (script log : Text) (old new : Seen) (ended : Ended)
     → DoesPlain names.Run (script ∷ log ∷ []) old new ended
-    → Ends (Records of_seats script log) exit_after false old new ended
+    → EndsAsCommand (RecordsScript of_seats script log) exit_after false old new ended
 run_ends script log old new ended (tasks.Run s l, (is_script, is_log), ends) =
     rw (same_some script s.now is_script, same_some log l.now is_log) ends
 run_ends script log old new ended (tasks.Show error, is, ends) =

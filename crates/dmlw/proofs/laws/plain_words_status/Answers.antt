@@ -2,7 +2,7 @@ use Rattle.std.proofs.Common.{[], ◌∷◌, false, refl}
 use Rattle.clap.proofs.OnLiterals.{clap_on_literals}
 use Rattle.clap.specs.Words.{Text}
 use Rattle.dmlw_commands.specs.declared.ending.Ended.{Ended}
-use Rattle.dmlw_commands.specs.Ends.{Ends, exit_by}
+use Rattle.dmlw_commands.specs.Ends.{EndsAsCommand, exit_by}
 use Rattle.dmlw_commands.specs.Lists.{ShowsStatus, ShowsLog}
 use Rattle.dmlw_commands.specs.Seen.{Seen}
 use Rattle.dmlw.specs.declared.program.Name.TheVariants as names
@@ -13,7 +13,7 @@ use Rattle.dmlw.proofs.laws.plain_words_status.Goals as goal
 
 status_ends : (log : Text) (old new : Seen) (ended : Ended)
     → DoesPlain names.Status (log ∷ []) old new ended
-    → Ends (ShowsLog ShowsStatus log) exit_by false old new ended
+    → EndsAsCommand (ShowsLog ShowsStatus log) exit_by false old new ended
 status_ends log old new ended (tasks.Status l, is, ends) = rw (same_some log l.now is) ends
 status_ends log old new ended (tasks.Show error, is, ends) =
     showing_refused ShowsStatus log old new ended (memory_ends error old new ended is ends)

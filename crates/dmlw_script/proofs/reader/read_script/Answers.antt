@@ -1,5 +1,5 @@
 use Rattle.dmlw_script.specs.Words.{lines_of}
-use Rattle.dmlw_script.specs.FirstFault.{IsFaultOf, IsReadAs}
+use Rattle.dmlw_script.specs.FirstFault.{IsFaultOf, ReadsScript}
 use Rattle.dmlw_script.proofs.FaultLaws.{fault_found}
 use Rattle.dmlw_script.proofs.ReaderLaws.{found, only}
 use Rattle.dmlw_script.proofs.RecorderFaults.{recorder_faults}
@@ -11,7 +11,7 @@ returns-clause-found c = found recorder (lines_of c.args.text.now) c.read.result
 
 pub returns-clause-only : goal.returns-clause-only
 returns-clause-only c plan spells =
-    only recorder (IsReadAs plan) (lines_of c.args.text.now) plan c.read.result
+    only recorder (ReadsScript plan) (lines_of c.args.text.now) plan c.read.result
     (λ script same. same) (λ fault memory. memory) c.read.ensures spells
 
 pub returns-clause-fault : goal.returns-clause-fault

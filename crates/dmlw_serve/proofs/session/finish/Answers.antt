@@ -5,7 +5,7 @@ use Rattle.layer_table.specs.Layers.{disk_of, stack_shown}
 use Rattle.dmlw_files.specs.Files.{MatchesContents, image_of}
 use Rattle.log_format.specs.LogOf.{status_of}
 use Rattle.log_store.specs.Calls.{store_of}
-use Rattle.log_store.specs.Store.{entries_of}
+use Rattle.log_store.specs.Store.{store_entries}
 use Rattle.recorder.specs.Calls.{core_of}
 use Rattle.script_runner.specs.DiskRun.{DiskRecorder, IsCounted}
 use Rattle.dmlw_serve.proofs.session.finish.Goals as goal
@@ -18,9 +18,9 @@ returns-clause-reports g c =
     let lies = c.lies-2.ensures ∙ ap (λ (s : Stack). (stack_shown s).lies) log in
     let told : (stack_shown c.args.server.recorder.store.device).lies ≡ 0 → c.status-status.result
     ≡ status_of (core_of c.args.server.recorder).sector_bytes
-    (entries_of (store_of c.args.server.recorder.store)) c.args.server.recorder.end =
+    (store_entries (store_of c.args.server.recorder.store)) c.args.server.recorder.end =
     subst (λ (r : DiskRecorder). (stack_shown r.store.device).lies ≡ 0 → c.status-status.result
-    ≡ status_of (core_of r).sector_bytes (entries_of (store_of r.store)) r.end) parts.recorder
+    ≡ status_of (core_of r).sector_bytes (store_entries (store_of r.store)) r.end) parts.recorder
     says.status in
     record {
       end = refl;

@@ -7,7 +7,7 @@ use Rattle.pending.specs.CoreState.{CoreState}
 use Rattle.dmlw_script.specs.Plans.{Disk}
 use Rattle.script_runner.specs.CallLaws.{on_error}
 use Rattle.script_runner.specs.DiskRun.{IsNewOn, IsStackOf, IsUnmadeOn}
-use Rattle.dmlw_serve.specs.Serves.{IsFilled}
+use Rattle.dmlw_serve.specs.Serves.{IsStackWithImage}
 use Rattle.dmlw_serve.proofs.Sessions.{begins, if_failed, room_on, unmade_at}
 use Rattle.dmlw_serve.proofs.session.start.Goals as goal
 
@@ -40,7 +40,7 @@ returns-in_err-recorder-clause-faults c =
     c.log_size-size.ensures.size c.in_err-recorder.ensures.faults in
     on_error c.from_residual-in_err-recorder.result c.from_residual-in_err-recorder.ensures.1
     (λ fault is. unmade_at c.args.script.now c.args.first c.in_ok-log.log fault _
-    (subst (λ (disk : Disk). IsFilled disk c.args.first c.in_ok-data.data) c.data.ensures.disk
+    (subst (λ (disk : Disk). IsStackWithImage disk c.args.first c.in_ok-data.data) c.data.ensures.disk
     c.in_ok-data.ensures.filled).size
     (subst (λ (disk : Disk). IsStackOf disk c.in_ok-log.log) c.log.ensures.disk
     c.in_ok-log.ensures.stack) is failed)
@@ -65,7 +65,7 @@ pub returns-clause-begun : goal.returns-clause-begun
 returns-clause-begun c =
     begins c.args.script.now c.args.first c.new.result c.in_ok-log.log c.in_ok-data.data
     c.in_ok-recorder.recorder c.new.ensures.made.0 c.new.ensures.made.1
-    (subst (λ (disk : Disk). IsFilled disk c.args.first c.in_ok-data.data) c.data.ensures.disk
+    (subst (λ (disk : Disk). IsStackWithImage disk c.args.first c.in_ok-data.data) c.data.ensures.disk
     c.in_ok-data.ensures.filled)
     (subst (λ (disk : Disk). IsStackOf disk c.in_ok-log.log) c.log.ensures.disk
     c.in_ok-log.ensures.stack)

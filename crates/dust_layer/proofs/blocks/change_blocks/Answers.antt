@@ -1,5 +1,5 @@
 use Rattle.std.proofs.Common.{refl, sym, ◌∙◌, arith}
-use Rattle.dust_layer.specs.Walk.{listed}
+use Rattle.dust_layer.specs.Walk.{listed_counts}
 use Rattle.dust_layer.proofs.BlockWalk.{changes_fails, changes_first}
 use Rattle.dust_layer.proofs.BlockWalk.{changes_land, changes_step}
 use Rattle.dust_layer.proofs.blocks.change_blocks.Goals as goal
@@ -9,7 +9,7 @@ use Rattle.dust_layer.proofs.BlockWalk.{changes_failed}
 pub loop-done-init : goal.loop-done-init
 loop-done-init g c =
     changes_first g.D.BlockDev.does g.D.BlockDev.shown c.args.block c.args.first c.args.count
-    c.args.change (listed c.args.bad.now)
+    c.args.change (listed_counts c.args.bad.now)
     c.args.lower.now c.args.now c.requires.range.some c.requires.count
 
 pub returns-then-strike-clause-goes : goal.returns-then-strike-clause-goes
@@ -22,8 +22,8 @@ pub loop-done-preserved : goal.loop-done-preserved
 loop-done-preserved g c =
     changes_step g.D.BlockDev.does g.D.BlockDev.shown c.args.block c.args.first c.args.count
     c.args.change
-    (listed c.args.bad.now) (listed c.loop-done.bad) (listed c.strike.new.self)
-    (listed c.forget.new.self)
+    (listed_counts c.args.bad.now) (listed_counts c.loop-done.bad) (listed_counts c.strike.new.self)
+    (listed_counts c.forget.new.self)
     c.loop-done.done c.loop-done.from c.reach-to.result c.args.lower.now c.args.now
     c.loop-done.lower c.loop-done.end c.change_part.new.lower c.in-Ok.end
     c.requires.some c.requires.range.some c.requires.count c.loop-done-test.true c.reach-to.ensures
@@ -36,7 +36,7 @@ loop-done-preserved g c =
 pub returns-in-Err-clause-goes : goal.returns-in-Err-clause-goes
 returns-in-Err-clause-goes g c =
     changes_fails g.D.BlockDev.does g.D.BlockDev.shown c.args.block c.args.first c.args.count
-    c.args.change (listed c.args.bad.now) (listed c.loop-done.bad)
+    c.args.change (listed_counts c.args.bad.now) (listed_counts c.loop-done.bad)
     c.loop-done.done c.loop-done.from c.reach-to.result c.args.lower.now c.args.now
     c.loop-done.lower c.loop-done.end c.change_part.new.lower
     c.requires.some c.requires.range.some c.requires.count c.loop-done-test.true c.reach-to.ensures
@@ -48,7 +48,7 @@ returns-in-Err-clause-blocks g c = grind (arith, changes_failed)
 pub returns-clause-lands : goal.returns-clause-lands
 returns-clause-lands g c =
     changes_land g.D.BlockDev.does g.D.BlockDev.shown c.args.block c.args.first c.args.count
-    c.args.change (listed c.args.bad.now) (listed c.loop-done.bad)
+    c.args.change (listed_counts c.args.bad.now) (listed_counts c.loop-done.bad)
     c.loop-done.done c.loop-done.from c.args.lower.now c.args.now c.loop-done.lower c.loop-done.end
     c.requires.some c.requires.range.some c.requires.count (let low = c.loop-done.auto.done-end in
     let past = c.loop-done-test.false in omega (arith)) c.loop-done.invariant

@@ -1,7 +1,7 @@
 use Rattle.std.proofs.Common.{refl, sym, ◌∙◌, arith}
 use Rattle.blockdev.specs.JoinLaws.{goes_both}
 use Rattle.bio.specs.Content.{nothing}
-use Rattle.dust_layer.specs.Walk.{listed}
+use Rattle.dust_layer.specs.Walk.{listed_counts}
 use Rattle.dust_layer.proofs.ReadParts.{reading_bytes, reading_failed, reading_step}
 use Rattle.dust_layer.proofs.blocks.read_blocks.Goals as goal
 
@@ -18,7 +18,7 @@ pub loop-done-preserved : goal.loop-done-preserved
 loop-done-preserved g c = (
   reading_step g.D.BlockDev.does g.D.BlockDev.shown c.args.block c.args.first c.args.buffer.now
       c.loop-done.buffer c.read_part.new.buffer
-      (listed c.args.bad.now) c.loop-done.done c.loop-done.from c.reach-to.result c.args.lower.now
+      (listed_counts c.args.bad.now) c.loop-done.done c.loop-done.from c.reach-to.result c.args.lower.now
       c.args.now c.loop-done.lower c.loop-done.end
       c.read_part.new.lower c.in-Ok.end c.requires.some
       (let some = c.requires.range.some in let whole = c.requires.range.whole in
@@ -35,7 +35,7 @@ pub returns-clause-bytes : goal.returns-clause-bytes
 returns-clause-bytes g c =
     reading_bytes g.D.BlockDev.does g.D.BlockDev.shown c.args.block c.args.first c.args.buffer.now
     c.loop-done.buffer
-    (listed c.args.bad.now) c.loop-done.done c.loop-done.from c.args.lower.now c.args.now
+    (listed_counts c.args.bad.now) c.loop-done.done c.loop-done.from c.args.lower.now c.args.now
     c.loop-done.lower c.loop-done.end c.requires.some
     (let some = c.requires.range.some in let whole = c.requires.range.whole in
     omega (arith, some, whole))

@@ -1,6 +1,6 @@
 use Rattle.std.proofs.Common.{◌++◌, ℕ, arith, refl, subst}
 use Rattle.std.proofs.KnownBytes.{Appends-trans, Consumes-trans}
-use Rattle.nbd.specs.Negotiation.{Agrees, greeting}
+use Rattle.nbd.specs.Negotiation.{AgreesOnOptions, greeting}
 use Rattle.nbd.proofs.negotiation.negotiate.Goals as goal
 
 pub returns : goal.returns
@@ -18,7 +18,7 @@ returns g c =
               known = omega (arith, c.read_u32-flags.ensures);
               options = agreed.0;
               replied = agreed.1;
-              agrees = subst (λ (flags : ℕ). Agrees c.args.export flags agreed.0 agreed.1)
+              agrees = subst (λ (flags : ℕ). AgreesOnOptions c.args.export flags agreed.0 agreed.1)
                   c.read_u32-flags.ensures agreed.4;
               heard = refl;
               said = refl;

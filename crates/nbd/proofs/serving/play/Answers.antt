@@ -1,7 +1,7 @@
 use Rattle.std.proofs.Common.{◌*◌, ◌++◌, ℕ, inr, refl, subst}
 use Rattle.std.proofs.KnownBytes.{Appends-trans, Consumes-trans}
 use Rattle.bio.specs.declared.request.SectorSize.{SectorSize}
-use Rattle.nbd.specs.Negotiation.{Begins}
+use Rattle.nbd.specs.Negotiation.{HandshakeBegins}
 use Rattle.nbd.proofs.serving.play.Goals as goal
 
 pub returns-in-Ok-clause-plays : goal.returns-in-Ok-clause-plays
@@ -19,10 +19,10 @@ returns-in-Ok-clause-plays g c = λ e.
       record {
         hello = first.0;
         greeted = first.1;
-        begins = subst (λ (n : ℕ). Begins
+        begins = subst (λ (n : ℕ). HandshakeBegins
             (record { bytes = n * 512; block = c.args.server.now.size }) first.0 first.1)
             c.sectors.ensures.size
-            (subst (λ (size : SectorSize). Begins
+            (subst (λ (size : SectorSize). HandshakeBegins
             (record { bytes = c.sectors.result * 512; block = size }) first.0 first.1)
             c.block.ensures first.4);
         asked = next.0;
@@ -43,10 +43,10 @@ returns-in-Err-transmit-clause-breaks g c = λ end e.
       g.O.Write.contents c.negotiate.new.output,
       first.2,
       first.3,
-      subst (λ (n : ℕ). Begins
+      subst (λ (n : ℕ). HandshakeBegins
           (record { bytes = n * 512; block = c.args.server.now.size }) first.0 first.1)
           c.sectors.ensures.size
-          (subst (λ (size : SectorSize). Begins
+          (subst (λ (size : SectorSize). HandshakeBegins
           (record { bytes = c.sectors.result * 512; block = size }) first.0 first.1)
           c.block.ensures first.4),
       c.in-Err-transmit.ensures.broke_off,

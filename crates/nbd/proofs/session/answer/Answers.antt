@@ -4,8 +4,8 @@ use Rattle.nbd.specs.Requests.{range_on}
 use Rattle.bio.specs.declared.request.Bio.TheVariants as bios
 use Rattle.std.proofs.Common.{◌∙◌, refl, sym}
 use Rattle.std.specs.Prelude.{Err}
-use Rattle.nbd.specs.declared.fault.Fault.TheVariants as faults
-use Rattle.nbd.specs.declared.wire.Command.TheVariants as commands
+use Rattle.nbd.specs.declared.fault.RequestFault.TheVariants as faults
+use Rattle.nbd.specs.declared.wire.RequestKind.TheVariants as commands
 use Rattle.nbd.specs.Wire.{command_of}
 use Rattle.nbd.proofs.Plays.{read_answered, replied}
 use Rattle.nbd.proofs.session.answer.Goals as goal

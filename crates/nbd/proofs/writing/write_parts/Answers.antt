@@ -4,8 +4,8 @@ use Rattle.std.specs.Prelude.{Err, Ok}
 use Rattle.std.proofs.Common.{◌+◌, arith, false, subst}
 use Rattle.std.specs.Prelude.{Result}
 use Rattle.bio.specs.declared.request.Bio.TheVariants as bios
-use Rattle.nbd.specs.declared.fault.Fault.{Fault}
-use Rattle.nbd.specs.Serving.{Gives}
+use Rattle.nbd.specs.declared.fault.RequestFault.{RequestFault}
+use Rattle.nbd.specs.Serving.{GivesResult}
 use Rattle.nbd.proofs.Parts.{ok_left, written_all, written_failed, written_more, written_none}
 use Rattle.nbd.proofs.writing.write_parts.Goals as goal
 
@@ -30,7 +30,7 @@ returns-in-Err-clause-writes g c =
     (g.I.Read.remaining c.write_part.new.input) c.args.server.now c.loop-done.server
     c.write_part.new.server c.requires c.loop-done.invariant c.min.ensures wrote.0 wrote.1 wrote.2
     c.in-Err.fault (g.I.Read.remaining c.skip.new.input) dropped.0
-    (subst (λ (r : Result Unit Fault). Gives c.args.now
+    (subst (λ (r : Result Unit RequestFault). GivesResult c.args.now
     (bios.Write (c.args.range.first + c.loop-done.done) wrote.0 false c.args.fua false) r
     c.loop-done.server c.write_part.new.server) c.in-Err.is wrote.3)
     dropped.1 dropped.2
@@ -47,7 +47,7 @@ loop-done-preserved g c =
     (g.I.Read.remaining c.write_part.new.input) c.args.server.now c.loop-done.server
     c.write_part.new.server c.requires c.loop-done.invariant c.min.ensures wrote.0 wrote.1 wrote.2
     (c.servers_go_as_one.ensures.two _ _ _ c.loop-done.invariant.frame c.write_part.ensures.goes)
-    (subst (λ (r : Result Unit Fault). Gives c.args.now
+    (subst (λ (r : Result Unit RequestFault). GivesResult c.args.now
     (bios.Write (c.args.range.first + c.loop-done.done) wrote.0 false c.args.fua false) r
     c.loop-done.server c.write_part.new.server)
     (ok_left c.in_ok-fault.field-0 c.in_default.not-Err) wrote.3)
@@ -71,7 +71,7 @@ returns-in_err-skip-clause-breaks g c =
     (bios.Write (c.args.range.first + c.loop-done.done) wrote.0 false c.args.fua false)
     (Err c.in-Err.fault) c.args.server.now c.loop-done.server c.write_part.new.server
     c.loop-done.invariant.give
-    (subst (λ (r : Result Unit Fault). Gives c.args.now
+    (subst (λ (r : Result Unit RequestFault). GivesResult c.args.now
     (bios.Write (c.args.range.first + c.loop-done.done) wrote.0 false c.args.fua false) r
     c.loop-done.server c.write_part.new.server) c.in-Err.is wrote.3))
 
@@ -83,7 +83,7 @@ returns-in-Err-clause-breaks g c =
     (bios.Write (c.args.range.first + c.loop-done.done) wrote.0 false c.args.fua false)
     (Err c.in-Err.fault) c.args.server.now c.loop-done.server c.write_part.new.server
     c.loop-done.invariant.give
-    (subst (λ (r : Result Unit Fault). Gives c.args.now
+    (subst (λ (r : Result Unit RequestFault). GivesResult c.args.now
     (bios.Write (c.args.range.first + c.loop-done.done) wrote.0 false c.args.fua false) r
     c.loop-done.server c.write_part.new.server) c.in-Err.is wrote.3))
 

@@ -45,5 +45,5 @@ returns-in_default-event g c = record {
       c.args.recorder.now c.event.new.self c.event.ensures.does c.in_default-event.not-Tracked
       c.in_default-event.not-Passed));
   goes = c.event.ensures.goes;
-  log_moment = c.event.ensures.moment;
+  log_time = c.event.ensures.time;
 }

@@ -8,7 +8,7 @@ pub returns-in-Ok-new-clause-made : goal.returns-in-Ok-new-clause-made
 returns-in-Ok-new-clause-made g c =
     let store = c.in-Ok.ensures in
     new_log _ c.args.device c.in-Ok.store c.in-Ok-new.recorder store.begun.0 store.begun.2
-    store.moment store.goes store.empty c.in-Ok-new.ensures.made
+    store.time store.goes store.empty c.in-Ok-new.ensures.made
 
 pub returns-in-Err-clause-faults : goal.returns-in-Err-clause-faults
 returns-in-Err-clause-faults g c =

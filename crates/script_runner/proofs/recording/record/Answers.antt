@@ -3,7 +3,7 @@ use Rattle.script_runner.specs.CallLaws.{on_error}
 use Rattle.script_runner.specs.DiskRun.{DiskRecorder, FailsOnDisks, IsCounted}
 use Rattle.log_format.specs.LogOf.{status_of}
 use Rattle.log_store.specs.Calls.{store_of}
-use Rattle.log_store.specs.Store.{entries_of}
+use Rattle.log_store.specs.Store.{store_entries}
 use Rattle.recorder.specs.Growth.{ReplaysToPossible}
 use Rattle.recorder.specs.Calls.{core_of, recorder_view}
 use Rattle.layer_table.specs.Layers.{stack_shown}
@@ -27,10 +27,10 @@ returns-clause-recorded g c =
     let script = c.args.script.now in
     let last = played.last in
     let told : (stack_shown last.recorder.store.device).lies ≡ 0 → c.status-status.result
-    ≡ status_of (core_of last.recorder).sector_bytes (entries_of (store_of last.recorder.store))
+    ≡ status_of (core_of last.recorder).sector_bytes (store_entries (store_of last.recorder.store))
     last.recorder.end =
     subst (λ (r : DiskRecorder). (stack_shown r.store.device).lies ≡ 0 → c.status-status.result
-    ≡ status_of (core_of r).sector_bytes (entries_of (store_of r.store)) r.end) played.left
+    ≡ status_of (core_of r).sector_bytes (store_entries (store_of r.store)) r.end) played.left
     c.status-status.ensures.status in
     let says = c.status-status.ensures in
     let counted = subst (λ (r : DiskRecorder). IsCounted c.status-status.result r) played.left

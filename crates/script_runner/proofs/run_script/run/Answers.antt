@@ -7,7 +7,7 @@ use Rattle.recorder.specs.Calls.{core_of}
 use Rattle.refusals.specs.declared.run_error.RunError.TheVariants.{Refused}
 use Rattle.script_runner.specs.declared.step_error.StepError.TheVariants.{AtLine}
 use Rattle.script_runner.specs.Lines.{answering, EndsSubmitted, FitsDevice, HasScriptText}
-use Rattle.script_runner.specs.Lines.{PrintsLine, StopsLine, count_of}
+use Rattle.script_runner.specs.Lines.{PrintsLine, StopsLine, submission_count}
 use Rattle.script_runner.specs.Runs.{EndsRun}
 use Rattle.script_runner.proofs.Scripts.{bytes_more, command_next, count_more_of, lines_more_of}
 use Rattle.script_runner.proofs.Scripts.{lines_run, next_line_fits, next_line_named}
@@ -126,7 +126,7 @@ loop-place-preserved g c =
       count_more_of script items c.loop-place.place _ _ _ c.commands-command-items.ensures.commands
           (omega arith) c.loop-place.invariant.2
           (of_place (λ (command : Command). length c.run_line.new.self.requests.items
-          ≡ length c.loop-place.running.requests.items + count_of command) items
+          ≡ length c.loop-place.running.requests.items + submission_count command) items
           c.loop-place.place
           c.command-item.result c.command-item.is c.in-Ok.ensures.count),
       c.run_line.ensures.size ∙ c.loop-place.invariant.3,

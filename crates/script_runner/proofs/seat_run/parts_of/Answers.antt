@@ -1,5 +1,5 @@
 use Rattle.std.proofs.Common.{ap, ◌∙◌}
-use Rattle.script_runner.specs.inside.{Player}
+use Rattle.script_runner.specs.inside.{PlayerView}
 use Rattle.script_runner.proofs.SeatRunSteps.{joined_next, mapped_next}
 use Rattle.script_runner.proofs.seat_run.parts_of.Goals as goal
 
@@ -11,12 +11,12 @@ loop-work-preserved g c =
     let view = c.work.view_is in (
       tt,
       tt,
-      mapped_next (λ (p : Player). p.part) players player c.loop-work.seats.items
+      mapped_next (λ (p : PlayerView). p.part) players player c.loop-work.seats.items
           c.push-in-loop-work.new.self.items _ c.in_ok-push-2.ensures.items before.2
-          (ap (λ (p : Player). p.part) view),
-      mapped_next (λ (p : Player). p.tally) players player c.loop-work.tallies.items
+          (ap (λ (p : PlayerView). p.part) view),
+      mapped_next (λ (p : PlayerView). p.tally) players player c.loop-work.tallies.items
           c.push.new.self.items _ c.in_ok-push.ensures.items before.3
-          (ap (λ (p : Player). p.tally) view),
-      c.in_ok-append.ensures.items ∙ rw (ap (λ (p : Player). p.receipts) view) (joined_next
+          (ap (λ (p : PlayerView). p.tally) view),
+      c.in_ok-append.ensures.items ∙ rw (ap (λ (p : PlayerView). p.receipts) view) (joined_next
           players player c.loop-work.receipts.items before.4),
     )

@@ -20,7 +20,7 @@ ghosts-run_on-R-Run g a = record {
   log = ground_of (stack_shown a.log);
   begins = λ reading.
       (made : Stack) × IsCreated stack_does (bytes_of a.script.now.log_size) a.log made
-      × (reading ≡ (stack_shown made).moment);
+      × (reading ≡ (stack_shown made).clock);
   stops = a.unnamed.stops;
   ends = a.unnamed.ends;
   reads = a.unnamed.reads;

@@ -1,12 +1,12 @@
 use Rattle.std.proofs.Common.{◌≡◌, ℕ, List, [], ◌∷◌, Some, arith, length}
 use Rattle.std.specs.Prelude.{nat_lt, slice_index_or, slice_set, true}
 use Rattle.bio.specs.Content.{put, writes}
-use Rattle.sector_disk.specs.declared.call.Call.{Call}
+use Rattle.sector_disk.specs.declared.call.PastCall.{PastCall}
 use Rattle.sector_disk.specs.inside.Storage.{IsFilled, content_at, value_in}
 use Rattle.sector_disk.proofs.Ram.{content_put}
 use Rattle.sector_disk.proofs.call.put_piece_in.Goals as goal
 
-first_put : (calls : List Call) (call now : Call) (newest filled : List ℕ) (first : ℕ)
+first_put : (calls : List PastCall) (call now : PastCall) (newest filled : List ℕ) (first : ℕ)
     (part : List ℕ) → true ≡ nat_lt 0 (length calls)
     → call ≡ slice_index_or calls 0 call → length part ≡ 65536
     → IsFilled first 128 0 newest filled

@@ -2,12 +2,12 @@ use Rattle.std.proofs.Common.{◌≡◌, ℕ, List, ◌+◌, ◌≤◌, ◌/◌,
 use Rattle.std.proofs.Common.{sym}
 use Rattle.std.proofs.lemmas.Bool.{lt-ltb}
 use Rattle.std.proofs.lemmas.Option.{get_or_from_slice_get, slice_get_within}
-use Rattle.sector_disk.specs.inside.Pieces.{AreWhole, joined}
+use Rattle.sector_disk.specs.inside.Pieces.{PiecesAreWhole, pieces_bytes}
 use Rattle.sector_disk.proofs.PackedParts.{LiesIn, lies_in}
 use Rattle.sector_disk.proofs.pieces.read_piece.Goals as goal
 
-there_in : (pieces : List (List ℕ)) (from : ℕ) → from % 512 ≡ 0 → AreWhole pieces
-    → from + 512 ≤ length (joined pieces) → LiesIn pieces from (from / 65536) (from % 65536)
+there_in : (pieces : List (List ℕ)) (from : ℕ) → from % 512 ≡ 0 → PiecesAreWhole pieces
+    → from + 512 ≤ length (pieces_bytes pieces) → LiesIn pieces from (from / 65536) (from % 65536)
 there_in pieces from place whole within = grind (arith, lies_in)
 
 pub read_sector-requires-clause-within : goal.read_sector-requires-clause-within

@@ -2,16 +2,16 @@ use Rattle.std.proofs.Common.{◌≡◌, ℕ, ◌-◌, ◌≤◌, List, [], ◌�
 use Rattle.std.proofs.Common.{length, length-drop, replicate, take}
 use Rattle.std.proofs.lemmas.Grind.{common_steps}
 use Rattle.std.proofs.lemmas.List.{take_all}
-use Rattle.sector_disk.specs.declared.runs.Run.{Run}
+use Rattle.sector_disk.specs.declared.runs.NumberRun.{NumberRun}
 use Rattle.sector_disk.specs.inside.Packed.{unrolled}
 use Rattle.sector_disk.proofs.runs.runs_of.Goals as goal
 
-unrolled-more : (runs : List Run) (run : Run)
+unrolled-more : (runs : List NumberRun) (run : NumberRun)
     → unrolled (runs ++ run ∷ []) ≡ unrolled runs ++ replicate run.count run.value
 unrolled-more [] run = grind (arith, common_steps)
 unrolled-more (x ∷ xs) run = grind (arith, unrolled-more xs run, append_assoc)
 
-more : (all rest : List ℕ) (runs new : List Run) (run : Run) (n : ℕ)
+more : (all rest : List ℕ) (runs new : List NumberRun) (run : NumberRun) (n : ℕ)
     → length rest - run.count ≤ n → new ≡ runs ++ run ∷ []
     → rest ≡ replicate run.count run.value ++ drop run.count rest
     → unrolled runs ++ rest ≡ all

@@ -2,11 +2,11 @@
 ghost use Rattle.std.specs.Prelude.{◌≡◌, ◌+◌, ◌/◌, ◌≤◌, IfOk, OnOk, false, length};
 ghost use Rattle.bio.specs.Content.{nothing, writes};
 ghost use Rattle.blockdev.specs.Law.{DeviceFrame, WriteDone};
-ghost use Rattle.sector_disk.specs.DiskView.{Begins, IsImageSize, shown_of};
+ghost use Rattle.sector_disk.specs.DiskView.{PastBegins, IsImageSize, shown_of};
 ghost use Rattle.sector_disk.specs.RamView.{DoesInRam, HoldsImage, IsFailed, ram_lawful, ram_view};
-ghost use Rattle.sector_disk.specs.inside.Storage.{change_values, count_of};
+ghost use Rattle.sector_disk.specs.inside.Storage.{change_values, change_count};
 
-use crate::call::{Call, Change, SECTOR, add_call, put_piece, read_places};
+use crate::call::{PastCall, PastChange, SECTOR, add_call, put_piece, read_places};
 use crate::disk::SectorDisk;
 use crate::disk::ram::RamDisk;
 use crate::filled::FilledBytes;
@@ -28,11 +28,11 @@ impl RamDisk {
     {
         let sectors = (image.len() / SECTOR) as u64;
         let mut calls = Vec::new(alloc);
-        calls.push(Call {
+        calls.push(PastCall {
             first: 0,
             fua: false,
             after_flush: false,
-            change: Change::Image(image),
+            change: PastChange::Image(image),
             before: Runs::empty(),
         })?;
         Ok(RamDisk {
@@ -47,7 +47,7 @@ impl RamDisk {
     /// Returns a disk with the same content, whose past begins. Lack of memory is an error.
     pub fn into_disk(self) -> Result<SectorDisk, AllocError>
         ensures { IfOk result
-            (λ disk. Begins (ram_view self).size (ram_view self).content (shown_of disk)) }
+            (λ disk. PastBegins (ram_view self).size (ram_view self).content (shown_of disk)) }
     {
         let RamDisk {
             alloc,
@@ -70,8 +70,8 @@ impl RamDisk {
     }
 
     // Adds a call. If an allocation fails, nothing is changed.
-    fn put(&mut self, first: u64, change: Change) -> Result<(), AllocError>
-        requires { first + count_of change ≤ self.old.sectors }
+    fn put(&mut self, first: u64, change: PastChange) -> Result<(), AllocError>
+        requires { first + change_count change ≤ self.old.sectors }
         ensures goes { DeviceFrame (change_values first change) (ram_view self.old)
             (ram_view self.new) }
         ensures lands { OnOk result (WriteDone (change_values first change) false
@@ -79,7 +79,7 @@ impl RamDisk {
         ensures faults { self.new.faults ≡ self.old.faults }
     {
         let count = change.sectors() as usize;
-        let call = Call {
+        let call = PastCall {
             first: first as u32,
             fua: false,
             after_flush: false,
@@ -108,7 +108,7 @@ impl RamDisk {
         )? {
             return Ok(());
         }
-        let change = Change::Write(FilledBytes::from_slice(self.alloc, part)?);
+        let change = PastChange::Write(FilledBytes::from_slice(self.alloc, part)?);
         self.put(first, change)
     }
 
@@ -152,7 +152,7 @@ impl BlockDev for RamDisk {
     }
 
     fn discard(&mut self, now: Ms, first: u64, count: u64) -> Result<Ms, DevError> {
-        self.put(first, Change::Discard(count))?;
+        self.put(first, PastChange::Discard(count))?;
         Ok(now)
     }
 

@@ -3,12 +3,12 @@ use Rattle.std.specs.Prelude.{slice_get}
 use Rattle.lock_state.specs.Comparison.{Receipt}
 use Rattle.lock_state.specs.PlacedItems.{entries_in}
 use Rattle.lock_state.specs.Receipts.{KeepsReceipt}
-use Rattle.lock_state.specs.declared.note.Item.{Item}
+use Rattle.lock_state.specs.declared.note.LogItem.{LogItem}
 use Rattle.shared.proofs.closing.take_apart.Goals as goal
 
 pub returns-clause-told : goal.returns-clause-told
 returns-clause-told g c lies k receipt there =
-    subst (λ (items : List Item). KeepsReceipt g.R.Run.sector_bytes
+    subst (λ (items : List LogItem). KeepsReceipt g.R.Run.sector_bytes
     (g.L.BlockDev.shown c.into_parts-log.result.device) (entries_in items) receipt)
     (sym c.into_parts-log.ensures.placed)
     (c.into_parts-log.ensures.told lies k receipt

@@ -1,6 +1,6 @@
 use Rattle.std.proofs.Common.{◌∙◌, List, Option, subst, sym, ℕ}
 use Rattle.refusals.specs.Errors.{IsFileError}
-use Rattle.dmlw_files.specs.Files.{HoldsImage, MatchesContents}
+use Rattle.dmlw_files.specs.Files.{FileHoldsImage, MatchesContents}
 use Rattle.dmlw_commands.specs.Judgements.{file}
 use Rattle.dmlw_commands.proofs.QuestionEnds.{answered_files, answered_none, failed_file}
 use Rattle.dmlw_commands.proofs.judge_image.answering.answer_files.Goals as goal
@@ -14,7 +14,7 @@ pub returns-in_err-image-clause-judged : goal.returns-in_err-image-clause-judged
 returns-in_err-image-clause-judged g c =
     answered_none _ _ _ c.from_residual-in_err-image.result c.from_residual-in_err-image.ensures.1
     (λ fault is. file fault (subst IsFileError (sym is) c.in_err-image.ensures.fault)
-    (λ usable. is ∙ c.in_err-image.ensures.readable (subst HoldsImage
+    (λ usable. is ∙ c.in_err-image.ensures.readable (subst FileHoldsImage
     (sym (c.in_ok-text.ensures.kept c.args.asked.image.now)) usable.1)))
 
 pub returns-clause-judged : goal.returns-clause-judged

@@ -1,6 +1,6 @@
 use Rattle.std.proofs.Common.{subst, sym}
 use Rattle.script_runner.specs.CallLaws.{on_error}
-use Rattle.dmlw_files.specs.Files.{HoldsImage}
+use Rattle.dmlw_files.specs.Files.{FileHoldsImage}
 use Rattle.dmlw_commands.specs.Replays.{FailsReplay, file}
 use Rattle.dmlw_commands.proofs.ReplayOnDisk.{both_images, failed_from, replayed_from}
 use Rattle.dmlw_commands.proofs.replay_log.replaying.replay_named.Goals as goal
@@ -16,7 +16,7 @@ returns-in_err-first-clause-fails g c =
     on_error c.from_residual-in_err-first.result c.from_residual-in_err-first.ensures.1
     (λ stop is. subst (FailsReplay _ _ _) (sym is) (file _ c.in_err-first.ensures.fault
     (λ log first. c.in_err-first.ensures.readable
-    (subst HoldsImage (sym (c.in_ok-log.ensures.kept c.args.first.now)) first))))
+    (subst FileHoldsImage (sym (c.in_ok-log.ensures.kept c.args.first.now)) first))))
 
 pub returns-clause-replayed : goal.returns-clause-replayed
 returns-clause-replayed g c =

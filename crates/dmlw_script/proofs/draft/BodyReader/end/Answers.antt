@@ -1,6 +1,6 @@
 use Rattle.std.proofs.Common.{◌∙◌, sym}
 use Rattle.dmlw_script.specs.declared.command.Command.TheVariants as commands
-use Rattle.dmlw_script.proofs.DraftLemmas.{flags_end, moment_push}
+use Rattle.dmlw_script.proofs.DraftLemmas.{flags_end, time_push}
 use Rattle.dmlw_script.proofs.draft.BodyReader.end.Goals as goal
 
 pub returns-clause-draft : goal.returns-clause-draft
@@ -11,5 +11,5 @@ returns-clause-draft c = record {
   in_time =
       rw (c.in_ok-push.ensures.items)
       (c.requires.draft.in_time
-      ∙ sym (moment_push 0 c.args.self.now.commands.items (commands.Complete c.args.request)));
+      ∙ sym (time_push 0 c.args.self.now.commands.items (commands.Complete c.args.request)));
 }

@@ -4,7 +4,7 @@ use Rattle.std.specs.Prelude.{MatchBool}
 use Rattle.pending.specs.CoreState.{items_of}
 use Rattle.bio.specs.declared.event.CoreEvent.{CoreEvent}
 use Rattle.bio.specs.PlaceLaws.{slice_get-of_get_or, slice_get-within}
-use Rattle.lock_state.specs.Comparison.{listed}
+use Rattle.lock_state.specs.Comparison.{listed_item}
 use Rattle.lock_state.specs.History.{Queue}
 use Rattle.lock_state.proofs.SeatList.{taken_as, taken_match}
 use Rattle.lock_state.proofs.queue.QueueState.is_taken_as.Goals as goal
@@ -51,8 +51,8 @@ returns g c =
     ap (λ (x : List CoreEvent × ℕ). slice_get x.0 x.1)
     (λ i. (sym c.events.ensures.events i, sym c.place.ensures i)) ∙ event in
     subst (λ (q : Queue). MatchBool c.is_item.result
-    (slice_get (items_of q.core) c.args.k ≡ Some (listed c.args.item.now))
-    (slice_get (items_of q.core) c.args.k ≢ Some (listed c.args.item.now)))
+    (slice_get (items_of q.core) c.args.k ≡ Some (listed_item c.args.item.now))
+    (slice_get (items_of q.core) c.args.k ≢ Some (listed_item c.args.item.now)))
     c.self.view_is
     (taken_match c.sector_bytes-bytes.result c.self.inside.core.state c.self.inside.taken.items
     c.args.k c.index-id.result.now c.in-Some.event.now c.is_item.result c.args.item.now

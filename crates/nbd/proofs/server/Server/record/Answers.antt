@@ -1,6 +1,6 @@
 use Rattle.std.proofs.Common.{◌∙◌, inl, inr, subst}
 use Rattle.std.specs.Prelude.{Result}
-use Rattle.nbd.specs.declared.fault.Fault.{Fault}
+use Rattle.nbd.specs.declared.fault.RequestFault.{RequestFault}
 use Rattle.nbd.specs.Serving.{CarriesOut}
 use Rattle.nbd.proofs.Frames.{gives_confirmed}
 use Rattle.nbd.proofs.server.Server.record.Goals as goal
@@ -16,7 +16,7 @@ returns-in-Ok-done-clause-gives g c =
       submits = c.in-Ok.ensures.submits;
       waits = c.submit.ensures.device;
       done = c.carry_out-done.new.self;
-      carries_out = subst (λ (r : Result Unit Fault). CarriesOut c.args.now c.args.bio c.in-Ok.id r
+      carries_out = subst (λ (r : Result Unit RequestFault). CarriesOut c.args.now c.args.bio c.in-Ok.id r
           c.submit.new.self c.carry_out-done.new.self) c.in-Ok-done.is
           c.carry_out-done.ensures.does;
       empties = c.drain.ensures.drains;
@@ -42,7 +42,7 @@ returns-in-Ok-clause-gives g c =
         submits = c.in-Ok.ensures.submits;
         waits = c.submit.ensures.device;
         done = c.carry_out-done.new.self;
-        carries_out = subst (λ (r : Result Unit Fault). CarriesOut c.args.now c.args.bio c.in-Ok.id
+        carries_out = subst (λ (r : Result Unit RequestFault). CarriesOut c.args.now c.args.bio c.in-Ok.id
             r c.submit.new.self c.carry_out-done.new.self) c.in-Err-done.is
             c.carry_out-done.ensures.does;
         empties = c.drain.ensures.drains;

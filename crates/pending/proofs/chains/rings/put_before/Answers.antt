@@ -1,7 +1,7 @@
 use Rattle.std.proofs.Common.{◌≡◌, ℕ, ◌<◌, Some, None, Option, List, [], length, set, ap, sym, ◌∙◌}
 use Rattle.std.proofs.Common.{arith, length-set}
 use Rattle.pending.specs.ChainsView.{chain_in}
-use Rattle.pending.specs.inside.Tables.{IsKept, IsLooseRing, after, last_in}
+use Rattle.pending.specs.inside.Tables.{HoldSomeChains, IsLooseRing, after, last_in}
 use Rattle.pending.proofs.HoldsLaws.{holds-embraced, holds-fronted, holds-loosened, holds-named}
 use Rattle.pending.proofs.HoldsLaws.{holds-same, last-again, last-is-row, ring-at, ring-is-row}
 use Rattle.pending.proofs.HoldsLaws.{ring-same}
@@ -9,7 +9,7 @@ use Rattle.pending.proofs.chains.rings.put_before.Goals as goal
 
 -- The chain's rows are loose after its last row was forgotten.
 loosened : (next new : List ℕ) (lasts noted : List (Option ℕ)) (from onto moved : ℕ)
-    → IsKept next lasts → from < length lasts → onto < length lasts
+    → HoldSomeChains next lasts → from < length lasts → onto < length lasts
     → last_in lasts from ≡ Some moved → new ≡ next → noted ≡ set lasts from None
     → IsLooseRing new noted onto moved
 loosened next new lasts noted from onto moved kept less there last same left = record {

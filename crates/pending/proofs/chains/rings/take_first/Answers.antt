@@ -1,7 +1,7 @@
 use Rattle.std.proofs.Common.{ℕ, List, ◌∷◌, Some, refl, ap, sym, ◌∙◌, subst, arith, length-set}
 use Rattle.pending.proofs.RingLaws.{some-of}
 use Rattle.pending.specs.ChainsView.{shortened}
-use Rattle.pending.specs.inside.Tables.{Holds}
+use Rattle.pending.specs.inside.Tables.{HoldChains}
 use Rattle.pending.proofs.HoldsLaws.{last-again, last-is-row, holds-same}
 use Rattle.pending.proofs.chains.rings.take_first.Goals as goal
 
@@ -18,7 +18,7 @@ returns-else-is_none-clause-holds c = λ loose chains h.
     let noted = c.args.links.now.lasts.items in
     let row = ap (λ r. r ∷ loose) c.next-first.ensures in
     let P : List ℕ → Type 0 =
-    λ rows. Holds c.cut.new.links.next.items c.cut.new.links.lasts.items rows
+    λ rows. HoldChains c.cut.new.links.next.items c.cut.new.links.lasts.items rows
     (shortened chains c.args.chain) in
     subst P (sym row) (holds-same c.cut.new.links.next.items c.cut.new.links.next.items
     c.cut.new.links.lasts.items refl

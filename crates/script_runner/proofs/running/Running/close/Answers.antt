@@ -6,8 +6,8 @@ use Rattle.script_runner.proofs.running.Running.close.Goals as goal
 pub returns : goal.returns
 returns g c = record {
   keeps = record {
-    moment = refl;
-    log_moment = c.drain-ended.ensures.moment ∙ c.event.ensures.moment;
+    time = refl;
+    log_time = c.drain-ended.ensures.time ∙ c.event.ensures.time;
     size = refl;
     count = refl;
   };
@@ -30,4 +30,4 @@ returns g c = record {
 
 pub returns-in-Refused-clause-keeps : goal.returns-in-Refused-clause-keeps
 returns-in-Refused-clause-keeps g c =
-    record { moment = refl; log_moment = c.event.ensures.moment; size = refl; count = refl }
+    record { time = refl; log_time = c.event.ensures.time; size = refl; count = refl }

@@ -12,8 +12,8 @@ returns-in-NotAsked-clause-runs g c =
       [],
       record {
         does = rw here (record { device = refl; kept = refl; prints = refl }, refl, refl);
-        moment = refl;
-        log_moment = refl;
+        time = refl;
+        log_time = refl;
         goes = c.several_calls_go_as_one.ensures.none c.args.self.now.recorder;
       },
       search rules,

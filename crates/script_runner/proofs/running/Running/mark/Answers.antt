@@ -1,16 +1,16 @@
 use Rattle.std.proofs.Common.{List, refl, subst, ℕ}
 use Rattle.recorder.specs.Calls.{Marks}
-use Rattle.script_runner.specs.inside.{mark_outcome}
+use Rattle.script_runner.specs.inside.{mark_printed}
 use Rattle.script_runner.proofs.LineSteps.{mark_prints, on_ok}
 use Rattle.script_runner.proofs.running.Running.mark.Goals as goal
 
 pub returns-in_err-clone-clause-keeps : goal.returns-in_err-clone-clause-keeps
 returns-in_err-clone-clause-keeps g c =
-    record { moment = refl; log_moment = refl; size = refl; count = refl }
+    record { time = refl; log_time = refl; size = refl; count = refl }
 
 pub returns-clause-keeps : goal.returns-clause-keeps
 returns-clause-keeps g c =
-    record { moment = refl; log_moment = c.event-reply.ensures.moment; size = refl; count = refl }
+    record { time = refl; log_time = c.event-reply.ensures.time; size = refl; count = refl }
 
 pub returns-clause-runs : goal.returns-clause-runs
 returns-clause-runs g c = on_ok c.print_mark.result c.print_mark.ensures.output (λ printed.
@@ -20,7 +20,7 @@ returns-clause-runs g c = on_ok c.print_mark.result c.print_mark.ensures.output 
     let marks =
     subst (λ (text : List ℕ). Marks text reply old new) c.in_ok-clone.ensures
     c.event-reply.ensures.does in (
-      mark_outcome reply,
+      mark_printed reply,
       record {
         device = refl;
         kept = refl;

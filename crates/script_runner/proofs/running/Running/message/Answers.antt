@@ -59,7 +59,7 @@ returns-in-Ok-clause-tells g c =
             core = rw told.core;
             end = told.end;
             store = told.same;
-            log_moment = told.moment;
+            log_time = told.time;
           }))
     ]
 
@@ -116,16 +116,16 @@ pub returns-in-Ok-clause-keeps : goal.returns-in-Ok-clause-keeps
 returns-in-Ok-clause-keeps g c = elim c.match-over.branch [
   | in-Data w ↦
       rw w.self-is (record {
-        moment = refl;
-        log_moment = refl;
+        time = refl;
+        log_time = refl;
         size =
             w.message-answer.ensures.same.size;
         count = refl;
       })
   | in-Log w ↦
       rw w.self-is (record {
-        moment = refl;
-        log_moment = w.message-answer-in-Log.ensures.moment;
+        time = refl;
+        log_time = w.message-answer-in-Log.ensures.time;
         size = refl;
         count = refl;
       })
@@ -135,16 +135,16 @@ pub returns-in-Err-clause-keeps : goal.returns-in-Err-clause-keeps
 returns-in-Err-clause-keeps g c = elim c.match-over.branch [
   | in-Data w ↦
       rw w.self-is (record {
-        moment = refl;
-        log_moment = refl;
+        time = refl;
+        log_time = refl;
         size =
             w.message-answer.ensures.same.size;
         count = refl;
       })
   | in-Log w ↦
       rw w.self-is (record {
-        moment = refl;
-        log_moment = w.message-answer-in-Log.ensures.moment;
+        time = refl;
+        log_time = w.message-answer-in-Log.ensures.time;
         size = refl;
         count = refl;
       })

@@ -3,8 +3,8 @@ use Rattle.script_runner.proofs.running.Running.read.Goals as goal
 
 pub returns-clause-keeps : goal.returns-clause-keeps
 returns-clause-keeps g c = record {
-  moment = refl;
-  log_moment = refl;
+  time = refl;
+  log_time = refl;
   size = c.read_sectors-bytes.ensures.size;
   count = refl;
 }

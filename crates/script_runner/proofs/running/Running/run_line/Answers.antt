@@ -44,14 +44,14 @@ returns-in-Close-clause-runs g c =
     step_runs (answering g.D.Message.answers g.L.Message.answers) c.args.names.now
     c.args.command.now steps.Close _ _ [] c.args.self.now c.close.new.self
     (is_step c.args.command.now c.in-Step.step _ c.in-Step.is c.in-Close.is) ends
-    c.close.ensures.keeps.moment c.close.ensures.keeps.log_moment goes (appends_none _))
+    c.close.ensures.keeps.time c.close.ensures.keeps.log_time goes (appends_none _))
 
 pub returns-in-Read-clause-runs : goal.returns-in-Read-clause-runs
 returns-in-Read-clause-runs g c = on_ok c.read.result c.read.ensures.runs (λ ran.
     step_runs (answering g.D.Message.answers g.L.Message.answers) c.args.names.now
     c.args.command.now (steps.Read c.in-Read.first c.in-Read.count) _ _ ran.0 c.args.self.now
     c.read.new.self (is_step c.args.command.now c.in-Step.step _ c.in-Step.is c.in-Read.is)
-    ran.1 c.read.ensures.keeps.moment c.read.ensures.keeps.log_moment c.read.ensures.goes ran.2)
+    ran.1 c.read.ensures.keeps.time c.read.ensures.keeps.log_time c.read.ensures.goes ran.2)
 
 pub returns-in-Mark-clause-runs : goal.returns-in-Mark-clause-runs
 returns-in-Mark-clause-runs g c =
@@ -59,7 +59,7 @@ returns-in-Mark-clause-runs g c =
     step_runs (answering g.D.Message.answers g.L.Message.answers) c.args.names.now
     c.args.command.now (steps.Mark c.in-Mark.text) _ _ ran.0 c.args.self.now c.mark.new.self
     (is_step c.args.command.now c.in-Step.step _ c.in-Step.is c.in-Mark.is) ran.1
-    c.mark.ensures.keeps.moment c.mark.ensures.keeps.log_moment goes ran.2)
+    c.mark.ensures.keeps.time c.mark.ensures.keeps.log_time goes ran.2)
 
 pub returns-in-Message-clause-runs : goal.returns-in-Message-clause-runs
 returns-in-Message-clause-runs g c =
@@ -70,7 +70,7 @@ returns-in-Message-clause-runs g c =
     c.args.command.now (steps.Message c.in-Message.over c.in-Message.layer c.in-Message.text) _
     _ [] c.args.self.now c.message.new.self
     (is_step c.args.command.now c.in-Step.step _ c.in-Step.is c.in-Message.is) tells
-    c.message.ensures.keeps.moment c.message.ensures.keeps.log_moment c.message.ensures.goes
+    c.message.ensures.keeps.time c.message.ensures.keeps.log_time c.message.ensures.goes
     (appends_none _))
 
 pub returns-in-Turn-clause-runs : goal.returns-in-Turn-clause-runs
@@ -78,12 +78,12 @@ returns-in-Turn-clause-runs g c =
     step_runs (answering g.D.Message.answers g.L.Message.answers) c.args.names.now
     c.args.command.now steps.Turn _ _ [] c.args.self.now c.turn.new.self
     (is_step c.args.command.now c.in-Step.step _ c.in-Step.is c.in-Turn.is) c.turn.ensures.turns
-    c.turn.ensures.keeps.moment c.turn.ensures.keeps.log_moment c.turn.ensures.goes (appends_none _)
+    c.turn.ensures.keeps.time c.turn.ensures.keeps.log_time c.turn.ensures.goes (appends_none _)
 
 pub returns-in-At-clause-runs : goal.returns-in-At-clause-runs
 returns-in-At-clause-runs g c =
     step_runs (answering g.D.Message.answers g.L.Message.answers) c.args.names.now
-    c.args.command.now (steps.At c.in-At.moment) _ _ [] c.args.self.now c.set_moment.new.self
+    c.args.command.now (steps.At c.in-At.time) _ _ [] c.args.self.now c.set_time.new.self
     (is_step c.args.command.now c.in-Step.step _ c.in-Step.is c.in-At.is)
-    c.set_moment.ensures.sets c.set_moment.ensures.moment c.set_moment.ensures.log_moment
-    c.set_moment.ensures.goes (appends_none _)
+    c.set_time.ensures.sets c.set_time.ensures.time c.set_time.ensures.log_time
+    c.set_time.ensures.goes (appends_none _)

@@ -2,7 +2,7 @@ use Rattle.std.proofs.Common.{List, ap, subst, ◌∙◌}
 use Rattle.bio.specs.declared.request.Bio.{Bio}
 use Rattle.lock_state.specs.Comparison.{Receipt}
 use Rattle.script_runner.specs.SeatRuns.{and_kept}
-use Rattle.shared.specs.Answers.{Answered}
+use Rattle.shared.specs.SeatCalls.{Answered}
 use Rattle.script_runner.proofs.Seats.{makes_request}
 use Rattle.script_runner.proofs.seat_work.Work.submit.Goals as goal
 

@@ -1,15 +1,15 @@
 use Rattle.std.proofs.Common.{◌≡◌, ℕ, ◌+◌, List, Option, length, ◌∙◌, ap, refl, subst, sym}
 use Rattle.refusals.specs.declared.run_error.End.{End}
 use Rattle.lock_state.specs.Comparison.{Each}
-use Rattle.lock_state.specs.History.{Queue, named}
+use Rattle.lock_state.specs.History.{Queue, seat_count}
 use Rattle.lock_state.specs.PlacedItems.{Log, with_room}
-use Rattle.lock_state.specs.declared.note.Item.{Item}
+use Rattle.lock_state.specs.declared.note.LogItem.{LogItem}
 use Rattle.shared.proofs.ClosedLog.{agrees_of, differs_apart, differs_of, receipts_there, stop_same}
 use Rattle.shared.proofs.PlainCrash.{plain_at}
-use Rattle.shared.proofs.PostedStatus.{current_of, ended_of, found_of, none_of_both, posted_stays}
-use Rattle.shared.proofs.PostedStatus.{told_within}
-use Rattle.shared.specs.Posts.{ArePosted, IsCurrent, IsLatest, IsOfPrefix, StatusHasCause}
-use Rattle.shared.specs.Posts.{end_before}
+use Rattle.shared.proofs.PublishedStatus.{current_of, ended_of, found_of, none_of_both, published_stays}
+use Rattle.shared.proofs.PublishedStatus.{told_within}
+use Rattle.shared.specs.Published.{ArePublished, IsCurrent, IsLatest, IsOfPrefix, StatusHasCause}
+use Rattle.shared.specs.Published.{end_before}
 use Rattle.shared.proofs.shared.Shared.close.Goals as goal
 
 pub returns-then-agrees-clause-agrees : goal.returns-then-agrees-clause-agrees
@@ -26,7 +26,7 @@ returns-then-agrees-clause-legal g c =
 
 pub returns-then-agrees-clause-counts : goal.returns-then-agrees-clause-counts
 returns-then-agrees-clause-counts g c all some =
-    ap named (c.finish-closed.ensures.same.1
+    ap seat_count (c.finish-closed.ensures.same.1
     ∙ ap (λ (queue : Queue). queue.by) (c.confirm_causes.ensures.same.1 ∙ c.audit.ensures.same.0))
     ∙ c.audit.ensures.counted all some
 
@@ -66,15 +66,15 @@ returns-then-agrees-clause-told g c lies k receipt there =
           (returns-then-agrees-clause-agrees g c).begins (kept.leaves left may);
     }
 
-pub returns-then-agrees-clause-posted : goal.returns-then-agrees-clause-posted
-returns-then-agrees-clause-posted g c =
-    posted_stays _ _ _ _ c.finish-closed.ensures.stay
-    (rw c.confirm_causes.ensures.same.0 c.in-Ok.ensures.posted)
+pub returns-then-agrees-clause-published : goal.returns-then-agrees-clause-published
+returns-then-agrees-clause-published g c =
+    published_stays _ _ _ _ c.finish-closed.ensures.stay
+    (rw c.confirm_causes.ensures.same.0 c.in-Ok.ensures.published)
 
-pub returns-clause-foreign_posted : goal.returns-clause-foreign_posted
-returns-clause-foreign_posted g c =
-    subst (λ (items : List Item). ArePosted g.R.Run.sector_bytes items c.in-Ok.held.posts)
-    (sym (c.take_apart.ensures.placed.0 ∙ rw c.confirm_causes.ensures.same.0)) c.in-Ok.ensures.posted
+pub returns-clause-foreign_published : goal.returns-clause-foreign_published
+returns-clause-foreign_published g c =
+    subst (λ (items : List LogItem). ArePublished g.R.Run.sector_bytes items c.in-Ok.held.published)
+    (sym (c.take_apart.ensures.placed.0 ∙ rw c.confirm_causes.ensures.same.0)) c.in-Ok.ensures.published
 
 pub returns-clause-foreign : goal.returns-clause-foreign
 returns-clause-foreign g c =
@@ -153,18 +153,18 @@ returns-then-agrees-clause-current g c =
     let current =
     current_of bytes log closed.placed.items c.confirm_causes.new.queue.stop
     c.first_of-found.result closed.store_end
-    c.args.receipts.items c.in-Ok.held.posts c.finish-closed.ensures.stay
-    (subst (λ (l : Log). Each (IsOfPrefix bytes l.placed) c.in-Ok.held.posts) same
-    c.in-Ok.ensures.posted.each)
-    (subst (λ (l : Log). Each (StatusHasCause l.end l.released) c.in-Ok.held.posts) same
+    c.args.receipts.items c.in-Ok.held.published c.finish-closed.ensures.stay
+    (subst (λ (l : Log). Each (IsOfPrefix bytes l.placed) c.in-Ok.held.published) same
+    c.in-Ok.ensures.published.each)
+    (subst (λ (l : Log). Each (StatusHasCause l.end l.released) c.in-Ok.held.published) same
     c.in-Ok.ensures.ends)
     (told_within _ _ _ before.named)
-    (subst (λ (l : Log). IsLatest bytes l c.in-Ok.held.posts) same c.in-Ok.ensures.latest)
+    (subst (λ (l : Log). IsLatest bytes l c.in-Ok.held.published) same c.in-Ok.ensures.latest)
     (found_of _ _ _ _ _ c.first_of-found.ensures c.stop_cause.ensures c.end.ensures)
     (λ ended. (c.finish-closed.ensures.ended ended).1) in
     subst (λ (x : ℕ × Option End). IsCurrent bytes closed.placed.items x.0
     (end_before c.first_of-found.result closed.store_end) x.1 c.args.receipts.items
-    c.in-Ok.held.posts)
+    c.in-Ok.held.published)
     (λ i. (sym (ap length c.placed.ensures.items) i, sym c.released-released.ensures i)) current
 
 pub returns-then-agrees-clause-stop_cause : goal.returns-then-agrees-clause-stop_cause
@@ -184,7 +184,7 @@ returns-clause-foreign_stop_cause g c =
 pub returns-clause-foreign_latest : goal.returns-clause-foreign_latest
 returns-clause-foreign_latest g c =
     let a = c.take_apart.ensures in
-    subst (λ (log : Log). IsLatest g.R.Run.sector_bytes log c.in-Ok.held.posts)
+    subst (λ (log : Log). IsLatest g.R.Run.sector_bytes log c.in-Ok.held.published)
     (ap (λ (log : Log). with_room log 0) (sym c.confirm_causes.ensures.same.0) ∙ (λ i. record {
       placed = sym a.placed.0 i;
       settled = sym a.placed.1 i;

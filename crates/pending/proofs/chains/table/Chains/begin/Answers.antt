@@ -1,6 +1,6 @@
 use Rattle.std.proofs.Common.{ℕ, List, [], ◌∷◌, ◌++◌, map, Option, None, ap, sym, ◌∙◌, subst, refl}
 use Rattle.std.proofs.lemmas.List.{map-append}
-use Rattle.pending.specs.inside.Tables.{seen_chains, seen_lasts, values_of, IsTable, IsWalk}
+use Rattle.pending.specs.inside.Tables.{seen_chains, seen_lasts, values_of, IsTable, WalksChain}
 use Rattle.pending.proofs.TableLaws.{seen-grown, seen-of, table-at, walk-grown}
 use Rattle.pending.proofs.CallLaws.{begun-table}
 use Rattle.pending.proofs.MarkLaws.{begun-counts, marked-of, marks-kept}
@@ -26,7 +26,7 @@ table g c =
 
 pub invariant_of-self : goal.invariant_of-self
 invariant_of-self g c =
-    let P : List (Option ℕ) → Type 0 = λ ls. IsWalk ls c.self.inside.walk in
+    let P : List (Option ℕ) → Type 0 = λ ls. WalksChain ls c.self.inside.walk in
     marked-of c.begin.new.self c.self.inside.rows.items c.self.inside.walk _ (table g c)
     (subst P (sym c.begin.ensures.lasts)
     (walk-grown c.self.inside.links.lasts.items c.self.inside.walk (c.self.invariant.sound).walks))

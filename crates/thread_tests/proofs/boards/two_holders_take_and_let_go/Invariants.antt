@@ -1,4 +1,0 @@
-use Rattle.thread_tests.proofs.boards.two_holders_take_and_let_go.Given as goal
-
-abbrev pub ghosts-are_held : goal.ghosts-are_held
-ghosts-are_held a = record { table = a.fresh }

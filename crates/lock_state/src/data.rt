@@ -57,7 +57,7 @@ impl<D: BlockDev + Drop, R: Run> DataState<D, R> {
         requires due { mine.old.due ≡ Some bio.now }
         requires tracked { is_tracked bio.now ≡ true }
         requires checked { check_answer bio.now R.sectors ≡ Ok tt }
-        ensures part_after_call { mine.new ≡ part_after_call mine.old result }
+        ensures called { mine.new ≡ part_after_call mine.old result }
 
         // If the result is Ok, all device calls of the request (`request_calls`) succeeded, and the
         // request is noted as succeeded.

@@ -18,8 +18,8 @@ use layer_table::{LayerSpec, TableError};
 use refusals::Refusal;
 use std::alloc::Global;
 
-// The maximum number of layers over one disk.
-const MAX_LAYERS: usize = 4;
+/// The maximum number of layers over one disk.
+pub const MAX_LAYERS: usize = 4;
 
 /// How much of the head of a script was read, and whether a crash has ended the script.
 #[derive(Clone, Copy)]

@@ -18,12 +18,13 @@
 
 pub use command::{Command, DiskName, Step, Submission, WriteOptions};
 pub use disk::DiskSpec;
+pub use head::MAX_LAYERS;
 pub use line::{recorder_forms, seat_forms};
 pub use printing::print_script;
 pub use reader::{line_of, read_script};
 pub use run_line::{RunCall, SeatCall};
 pub use run_printing::print_run_script;
-pub use run_reader::read_run_script;
+pub use run_reader::{MAX_SEATS, read_run_script};
 pub use run_script::RunScript;
 pub use script::Script;
 pub use script_id::ScriptId;

@@ -19,8 +19,8 @@ use bio::SectorSize;
 use refusals::{Fault, Refusal};
 use std::alloc::Global;
 
-// The maximum number of seats of a run.
-const MAX_SEATS: u64 = 64;
+/// The maximum number of seats of a run.
+pub const MAX_SEATS: u64 = 64;
 
 // A run's script, as far as it was read.
 #[derive(Drop)]

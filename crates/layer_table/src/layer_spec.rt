@@ -1,9 +1,11 @@
 //! `LayerSpec`: the layer that a table line asks for. `parse_line` parses a line, `push_line` prints
 //! a layer. The words, ranges and text of each target are here. Scripts keep the `LayerSpec`s of
 //! their disks.
-ghost use Rattle.std.specs.Prelude.{◌≡◌, ◌<◌, ◌^◌, ◌++◌, ◌∷◌, [], decimal, nat_eq, IfOk, OnOk};
+ghost use Rattle.std.specs.Prelude.{◌≡◌, ◌<◌, ◌^◌, ◌++◌, ◌∷◌, [], decimal, nat_eq, IfOk, OnOk, ℕ};
+ghost use Rattle.std.specs.Prelude.{Some, false};
 ghost use Rattle.std.specs.List.{list_all, list_any};
 ghost use Rattle.refusals.specs.Words.{words_of};
+ghost use Rattle.layer_table.specs.declared.layer_spec.BadValue.TheVariants.{NoNumber};
 ghost use Rattle.layer_table.specs.TableLines.{word_in, line_answer, named_target, offset_in, row};
 ghost use Rattle.layer_table.specs.TableLines.{number_in, has_one_place, is_same_place, later_delay};
 ghost use Rattle.layer_table.specs.TableLines.{feature_in, delay_in, feature_named, has_number};
@@ -39,6 +41,66 @@ pub struct LayerSpec {
     pub offset: u64,
     /// What the layer does.
     pub target: Target,
+}
+
+/// Which value of a line that `parse_line` refuses is wrong, with its limits.
+#[derive(Clone, Copy, Debug)]
+pub enum BadValue {
+    /// The word at this place, counted from 0, isn't a number.
+    NoNumber(usize),
+    /// The start isn't 0.
+    Start(u64),
+    /// The length isn't 1 to `most` sectors.
+    Length { length: u64, most: u64 },
+    /// The seconds up and down are together not 1 to `most`.
+    Cycle { most: u64 },
+    /// The block's size isn't a power of two from `least` to `most` bytes.
+    Block { bytes: u64, least: u64, most: u64 },
+    /// A delay is above `most` milliseconds, or the groups name different devices or offsets.
+    Delay { most: u64 },
+}
+
+/// Returns which value of a line is wrong, for a message to a person, if `parse_line` refuses the
+/// line as `BadNumber` or `OutOfRange`. The place of a value is that of `parse_line`, so a message
+/// and a refusal can't differ.
+pub fn bad_value(line: &[u8]) -> Option<BadValue>
+    ensures no_number { (place : ℕ) → result ≡ Some (NoNumber place)
+        → has_number (words_of line.now) place ≡ false }
+{
+    let name = TargetName::of_word(word_in(line, 2))?;
+    for place in name.number_places(count_words(line)) {
+        if !has_number(line, *place) {
+            return Some(BadValue::NoNumber(*place));
+        }
+    }
+    let start = number_in(line, 0);
+    if start != 0 {
+        return Some(BadValue::Start(start));
+    }
+    let length = number_in(line, 1);
+    if length == 0 || length > MAX_DEVICE_SECTORS {
+        let most = MAX_DEVICE_SECTORS;
+        return Some(BadValue::Length { length, most });
+    }
+    bad_target_value(line, name)
+}
+
+// Returns the limits of the target's own values, if it has some.
+fn bad_target_value(line: &[u8], name: TargetName) -> Option<BadValue>
+    ensures no_number { (place : ℕ) → result ≡ Some (NoNumber place) → ⊥ }
+{
+    match name {
+        TargetName::Flakey => Some(BadValue::Cycle {
+            most: MAX_CYCLE_SECONDS,
+        }),
+        TargetName::Dust => Some(BadValue::Block {
+            bytes: number_in(line, 5),
+            least: MIN_BLOCK_BYTES,
+            most: MAX_BLOCK_BYTES,
+        }),
+        TargetName::Delay => Some(BadValue::Delay { most: MAX_DELAY }),
+        TargetName::Linear | TargetName::Error | TargetName::Fuse => None,
+    }
 }
 
 /// Parses a line: returns the layer that its words ask for, or the error of the first failed test.

@@ -11,7 +11,7 @@
 #![tactic(auto)]
 
 pub use fault_layers::{Feature, Target};
-pub use layer_spec::{LayerSpec, parse_line, push_line};
+pub use layer_spec::{BadValue, LayerSpec, bad_value, parse_line, push_line};
 pub use slot::Slot;
 pub use stack::Stack;
 pub use table_error::TableError;

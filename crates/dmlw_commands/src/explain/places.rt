@@ -3,11 +3,10 @@ use crate::explain::line::EscapedBytes;
 use crate::explain::script_text::{
     Grammar, Numbered, begins_with, count_of, first_of_body, line_of, number_at, word_at,
 };
+use bio::MAX_DEVICE_SECTORS;
+use dmlw_script::{MAX_LAYERS, MAX_SEATS};
 use std::fmt;
 use std::fmt::Write;
-
-// The most layers over one disk.
-const MAX_LAYERS: u64 = 4;
 
 /// Writes why a line with right words can't be at this point, or which of its numbers is out of
 /// range.
@@ -56,12 +55,17 @@ fn next_of_head(grammar: Grammar, text: &[u8], before: u64) -> Option<&'static s
 // Writes the allowed range of the number in a line of the head.
 fn write_range<W: Write>(line: Numbered, to: &mut W) -> fmt::Result {
     let number = EscapedBytes(word_at(line.text, 1).unwrap_or_default());
-    let range = match word_at(line.text, 0) {
-        Some(b"seats") => "1 to 64",
-        Some(b"log") if word_at(line.text, 2).is_some() => "8 to 1048576, with the word 4096",
-        _ => "1 to 1048576",
+    let (least, most, condition) = match word_at(line.text, 0) {
+        Some(b"seats") => (1, MAX_SEATS, ""),
+        Some(b"log") if word_at(line.text, 2).is_some() => {
+            (8, MAX_DEVICE_SECTORS, ", with the word 4096")
+        }
+        _ => (1, MAX_DEVICE_SECTORS, ""),
     };
-    writeln!(to, "  the number {number} is out of range: it is {range}")
+    writeln!(
+        to,
+        "  the number {number} is out of range: it is {least} to {most}{condition}"
+    )
 }
 
 // Writes why a line can't come after the head, or at this point among layers and other lines.
@@ -107,7 +111,7 @@ fn write_layer<W: Write>(text: &[u8], line: Numbered, word: &[u8], to: &mut W) -
             );
         }
     }
-    if count_of(text, line.number, word) >= MAX_LAYERS {
+    if count_of(text, line.number, word) >= MAX_LAYERS as u64 {
         return writeln!(
             to,
             "  this disk already has {MAX_LAYERS} layers, which is the maximum"

@@ -1,15 +1,14 @@
 //! Explains the line of a script at which a command was refused, from the lines before it.
 use crate::explain::advice::advice;
 use crate::explain::counted::{Counted, counted_sectors};
-use crate::explain::layers::{
-    write_bad_number, write_range, write_unknown_target, write_wrong_count,
-};
+use crate::explain::layers::{write_bad_value, write_unknown_target, write_wrong_count};
 use crate::explain::line::{EscapedBytes, explain_line, write_forms};
 use crate::explain::messages::write_message;
 use crate::explain::script_text::{
     Grammar, Numbered, count_of, end_of, first_open, line_at, line_of, number_at, open_requests,
     submission_of, submitted_by, word_at,
 };
+use bio::MAX_REQUEST_SECTORS;
 use refusals::{Refusal, number_of};
 use std::alloc::Global;
 use std::fmt;
@@ -41,7 +40,7 @@ pub(crate) fn write_line<W: Write>(
         Refusal::Busy => write_busy(alloc, text, line, to),
         Refusal::UnknownTarget => write_unknown_target(line.text, to),
         Refusal::WrongCount => write_wrong_count(line.text, to),
-        Refusal::BadNumber => write_bad_number(line.text, to),
+        Refusal::BadNumber => write_bad_value(line.text, to),
         Refusal::OutOfRange => write_out_of_range(text, line, to),
         Refusal::BadMessage | Refusal::AlreadyBad | Refusal::NotBad => {
             write_message(text, line, refusal, to)
@@ -158,7 +157,10 @@ fn write_past_end<W: Write>(
 // Writes a request's sector count, and the most that it may have.
 fn write_too_long<W: Write>(grammar: Grammar, line: Numbered, to: &mut W) -> fmt::Result {
     match range_of(grammar, line.text) {
-        Some((_, count)) => writeln!(to, "  the request has {count} sectors; the maximum is 2048"),
+        Some((_, count)) => writeln!(
+            to,
+            "  the request has {count} sectors; the maximum is {MAX_REQUEST_SECTORS}"
+        ),
         None => write_sentence(Refusal::TooLong, to),
     }
 }
@@ -195,7 +197,7 @@ fn write_out_of_range<W: Write>(text: &[u8], line: Numbered, to: &mut W) -> fmt:
                 "  the layer {offset}+{length} ends past the device below it, which has {size}, counted from 0"
             )
         }
-        _ => write_range(line.text, to),
+        _ => write_bad_value(line.text, to),
     }
 }
 

@@ -111,16 +111,17 @@ The log has its entries in the order in which they are queued:
 
 - A mark is queued at its line.
 - A flush, and a write with `flush` or `fua`, are queued at their own `c` line.
-- Another write or a discard ends at its `c` line, and then waits. It is queued
-  when a flush, or a write with `flush`, ends that was submitted after that. It
-  is also queued when a write with `fua` ends that overlaps it, directly or by
-  later requests that wait, each of which overlaps the next.
+- Any other write, or a discard, waits from its `c` line on. A flush, or a write
+  with `flush`, that is submitted after this line queues it at its own `c` line.
+  A write with `fua` queues it in the same way if the two overlap. It also does
+  so if the waiting request overlaps a request that began to wait later and that
+  this write queues, so that requests which overlap keep their order.
 - What still waits at `close` is queued there, before the end mark.
 
-What an ending flush or `fua` write takes along is queued before it, in the
-order in which these requests ended. A request that failed is queued like one
-that succeeded. For example, let `a`, `b` and `d` write the sectors 1, 2 and 1,
-and `d` with `fua`. Then the lines
+The waiting requests that a flush or a write queues come before it in the log,
+in the order of their `c` lines. A request that failed is queued like one that
+succeeded. For example, let `a`, `b` and `d` write the sectors 1, 2 and 1, and
+`d` with `fua`. Then the lines
 
     c b
     c a

@@ -96,7 +96,7 @@ land_steps events id at old new may within is =
     let there = slice_get-get_or old.cells at empty_cell within in
     subst (StepsWorld events (Land id at) old) (sym is) (record {
       may = may;
-      machine_after = record {
+      after = record {
         landed = λ sector.
             grind (arith, set_seen landed_of old.cells at (landing id cell) sector within);
         settled =
@@ -125,7 +125,7 @@ destage_steps events at old new may within size is image =
     let there = slice_get-get_or old.cells at empty_cell within in
     subst (StepsWorld events (Destage at) old) (sym is) (record {
       may = may;
-      machine_after = record {
+      after = record {
         landed =
             λ sector. set_same landed_of old.cells at (settling cell) sector within
             (ap landed_of (sym there));

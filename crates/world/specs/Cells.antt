@@ -93,7 +93,7 @@ pub record PutsSector (patch : Patch) (at : ℕ) (old new : List ℕ) : Type 0 w
 -- size.
 pub record StepsWorld (events : List CoreEvent) (step : Step) (old new : WorldState) : Type 0 where
   pub may : has_step events (machine_of old) step ≡ true
-  pub machine_after : IsSameMachine (machine_of new) (machine_after (machine_of old) step)
+  pub after : IsSameMachine (machine_of new) (machine_after (machine_of old) step)
   pub left : (sector : ℕ) → sector < length old.cells → sector_of new.image sector
       ≡ left_after events (machine_of old) step (sector_of old.image) sector
   pub sectors : length new.cells ≡ length old.cells

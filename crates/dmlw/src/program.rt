@@ -193,7 +193,7 @@ fn bare_command<'a>(alloc: Global) -> Command<'a>
     ensures { app_of result ≡ bare_app }
 {
     Command::new(alloc, "dmlw")
-        .version("1.1.0-pre.2 (log format version 1)")
+        .version("1.1.0-pre.3 (log format version 1)")
         .override_help(HELP)
         .subcommand_required(true)
         .arg_required_else_help(true)

@@ -290,7 +290,7 @@ Texts that are shown are flushed too, and so are faults.
   ! dmlw: 32 File
   [1]
   $ stuck:full dmlw --version
-  dmlw 1.1.0-pre.2 (log format version 1)
+  dmlw 1.1.0-pre.3 (log format version 1)
   ! dmlw: 32 File
   [1]
   $ deaf dmlw frob

@@ -136,7 +136,7 @@ Command lines and their texts.
   Options:
     -h, --help  Print help
   $ dmlw --version
-  dmlw 1.1.0-pre.2 (log format version 1)
+  dmlw 1.1.0-pre.3 (log format version 1)
   $ dmlw --help
   Records block requests in a log, and reads logs back
   

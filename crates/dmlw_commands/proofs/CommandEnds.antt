@@ -10,7 +10,7 @@ use Rattle.refusals.specs.declared.run_error.RunError.{RunError}
 use Rattle.refusals.specs.declared.run_error.RunError.TheVariants.{Refused as RefusedBy}
 use Rattle.refusals.specs.Errors.{IsFileError, refused_by}
 use Rattle.bio.specs.declared.outcome.Status.{Status}
-use Rattle.dmlw_script.specs.FirstFault.{is_memory}
+use Rattle.dmlw_script.specs.Language.{memory_fault}
 use Rattle.dmlw_script.specs.Words.{lines_of}
 use Rattle.dmlw_script.specs.Plans.{ScriptValue}
 use Rattle.dmlw_script.specs.RunPlans.{RunPlan}
@@ -224,9 +224,9 @@ pub fails_unread : {S : Type 0} (kind : ScriptKind S) (contents out : Option (Li
     (error : Fault) (fault : RunError) (IsFaultAt : Option ℕ → Type 0)
     → ((line : ℕ) → IsFaultAt (Some line)
     → kind.is_first_fault (lines_of text) line error.refusal)
-    → (IsFaultAt None → error ≡ is_memory)
+    → (IsFaultAt None → error ≡ memory_fault)
     → MatchesContents contents text → IsFaultAt error.line
-    → ((script : S) → kind.spells text script → error ≡ is_memory)
+    → ((script : S) → kind.spells text script → error ≡ memory_fault)
     → fault ≡ RefusedBy error → FailsRecording kind contents out out fault
 fails_unread kind contents out text error fault IsFaultAt at none is wrong only same =
     subst (FailsRecording kind contents out out) (sym same) (by_line error.line refl wrong)

@@ -31,7 +31,8 @@ use Rattle.world.specs.declared.reaching.Finding.TheVariants.{Run, RuledOut}
 use Rattle.world.specs.Machine.{IsFinding, IsReachable}
 use Rattle.pending.specs.CompletionList.{BelongsTo, completion_list, dm_log_writes, entries_of}
 use Rattle.pending.specs.CompletionList.{last_moment}
-use Rattle.dmlw_script.specs.FirstFault.{IsFaultOf, is_memory}
+use Rattle.dmlw_script.specs.FirstFault.{IsFaultOf}
+use Rattle.dmlw_script.specs.Language.{memory_fault}
 use Rattle.dmlw_script.specs.Grammar.{IsTextOf}
 use Rattle.dmlw_script.specs.Plans.{ScriptValue, top_of}
 use Rattle.script_runner.specs.CallLaws.{keeps_same, keeps_twice, appends_kept}
@@ -85,7 +86,7 @@ failed_run text image asked plan fault again whole spelled fails same =
 
 pub failed_text : (text image : List ℕ) (asked : ℕ) (error : Fault) (fault : RunError)
     → IsImage image → IsFaultOf text error error.line
-    → ((plan : ScriptValue) → IsTextOf text plan → error ≡ is_memory) → fault ≡ Refused error
+    → ((plan : ScriptValue) → IsTextOf text plan → error ≡ memory_fault) → fault ≡ Refused error
     → HasNoVerdict (question text image asked) fault
 failed_text text image asked error fault whole wrong only output =
     subst (HasNoVerdict (question text image asked)) (sym output) (by_line error.line refl wrong)

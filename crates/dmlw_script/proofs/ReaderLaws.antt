@@ -9,7 +9,8 @@ use Rattle.std.specs.List.{AllByRecursion, AllZip}
 use Rattle.refusals.specs.declared.refusal.Refusal.{Refusal}
 use Rattle.refusals.specs.declared.refusal.Refusal.TheVariants.{BadLine, Memory}
 use Rattle.refusals.specs.declared.run_error.Fault.{Fault}
-use Rattle.dmlw_script.specs.FirstFault.{is_memory}
+use Rattle.std.proofs.Common.{subst}
+use Rattle.dmlw_script.specs.Language.{memory_fault, AreLines, Language, Means}
 use Rattle.dmlw_script.specs.inside.Drafts.{◌>>=◌}
 use Rattle.dmlw_script.specs.inside.Readers.{and_then, at_line, line_by, read_by, step_if, IsFault}
 use Rattle.dmlw_script.specs.inside.Readers.{ReadsLine}
@@ -73,7 +74,7 @@ then_ok (Ok x) f y e = (x, refl, e)
 then_ok (Err fault) f y e = absurd (cc)
 
 pub memory_is : (fault : Fault) (line : Option ℕ) → fault.line ≡ line → line ≡ None
-    → fault.refusal ≡ Memory → fault ≡ is_memory
+    → fault.refusal ≡ Memory → fault ≡ memory_fault
 memory_is fault line is none memory = grind arith
 
 abbrev pub fold : {S W : Type 0} → (S → W → Result S Refusal) → S → List W → Result S Refusal
@@ -218,21 +219,14 @@ tells_said Says line lines w ws plain kept says h = grind (arith, kept_said)
 -- `S` is the state of the reader, `W` the meaning of a line, and `A` the script.
 pub record ReaderLaw (S W A : Type 0) : Type 1 where
   pub parse : List ℕ → Option W
-  pub Says : List ℕ → W → Type 0
-  pub parse_says : (line : List ℕ) (w : W) → parse line ≡ Some w → Says line w
-  pub says_parse : (line : List ℕ) (w : W) → Says line w → parse line ≡ Some w
+  pub language : Language W A
+  pub parse_says : (line : List ℕ) (w : W) → parse line ≡ Some w → Means language line w
+  pub says_parse : (line : List ℕ) (w : W) → Means language line w → parse line ≡ Some w
   pub start : S
   pub step : S → W → Result S Refusal
   pub finish : S → Result A Refusal
-  pub lines_of_script : A → List W
-  pub IsScript : A → Type 0
-  pub Spells : List (List ℕ) → A → Type 0
-  pub spells : (lines : List (List ℕ)) (plan : A) → LinesMean Says lines (lines_of_script plan)
-      → IsScript plan → Spells lines plan
-  pub spelled : (lines : List (List ℕ)) (plan : A) → Spells lines plan
-      → LinesMean Says lines (lines_of_script plan) × IsScript plan
   pub IsFine : W → Type 0
-  pub fine_said : (line : List ℕ) (w : W) → Says line w → IsFine w
+  pub fine_said : (line : List ℕ) (w : W) → Means language line w → IsFine w
   pub IsBegun : S → Type 0
   pub lines_so_far : S → List W
   pub start_begun : IsBegun start
@@ -240,9 +234,9 @@ pub record ReaderLaw (S W A : Type 0) : Type 1 where
   pub step_grows : (s t : S) (w : W) → step s w ≡ Ok t → IsFine w → IsBegun s
       → IsBegun t × (lines_so_far t ≡ lines_so_far s ++ w ∷ [])
   pub finish_grows : (s : S) (plan : A) → finish s ≡ Ok plan → IsBegun s
-      → (lines_so_far s ≡ lines_of_script plan) × IsScript plan
-  pub script_again : (plan : A) → IsScript plan
-      → (fold step start (lines_of_script plan) >>= finish) ≡ Ok plan
+      → (lines_so_far s ≡ language.lines_of plan) × language.IsScript plan
+  pub script_again : (plan : A) → language.IsScript plan
+      → (fold step start (language.lines_of plan) >>= finish) ≡ Ok plan
 
 module _ {S W A : Type 0} (r : ReaderLaw S W A) where
   abbrev pub takes : S → List ℕ → Result S Refusal
@@ -266,7 +260,7 @@ module _ {S W A : Type 0} (r : ReaderLaw S W A) where
   -- Reading `lines` in the state `s` adds the meanings `said`, and ends in the state `t`.
   record Grown (s t : S) (lines : List (List ℕ)) : Type 0 where
     said : List W
-    tells : LinesMean r.Says lines said
+    tells : LinesMean (Means r.language) lines said
     begun : r.IsBegun t
     more : r.lines_so_far t ≡ r.lines_so_far s ++ said
 
@@ -312,7 +306,7 @@ module _ {S W A : Type 0} (r : ReaderLaw S W A) where
   -- Reading `lines` ends in the state `s`, which holds the meanings of all of them.
   pub record Reached (lines : List (List ℕ)) (s : S) : Type 0 where
     pub gone : fold takes r.start lines ≡ Ok s
-    pub tells : LinesMean r.Says lines (r.lines_so_far s)
+    pub tells : LinesMean (Means r.language) lines (r.lines_so_far s)
     pub begun : r.IsBegun s
 
   pub reached : (lines : List (List ℕ)) (s : S) → fold takes r.start lines ≡ Ok s
@@ -328,11 +322,18 @@ module _ {S W A : Type 0} (r : ReaderLaw S W A) where
       }
 
   pub reached_spells : (lines : List (List ℕ)) (s : S) (plan : A) → Reached lines s
-      → r.finish s ≡ Ok plan → r.Spells lines plan
-  reached_spells lines s plan here finish = grind arith
+      → r.finish s ≡ Ok plan → AreLines r.language lines plan
+  reached_spells lines s plan here finish =
+      let grown = r.finish_grows s plan finish here.begun in
+      record {
+        plain = here.tells.plain;
+        says =
+            subst (λ ws. AllZip (Means r.language) (unskipped lines) ws) grown.0 here.tells.says;
+        script = grown.1;
+      }
 
   pub lines_spell : (number : ℕ) (lines : List (List ℕ)) (plan : A) → reads number lines ≡ Ok plan
-      → r.Spells lines plan
+      → AreLines r.language lines plan
   lines_spell number lines plan e =
       let f =
       bind_ok (fold takes r.start lines) r.finish plan
@@ -341,7 +342,7 @@ module _ {S W A : Type 0} (r : ReaderLaw S W A) where
 
   told_lines : (s t : S) (lines : List (List ℕ)) (ws : List W)
       → AllByRecursion (λ line. is_ascii_line line ≡ true) lines
-      → AllZip r.Says (unskipped lines) ws → fold r.step s ws ≡ Ok t → fold takes s lines ≡ Ok t
+      → AllZip (Means r.language) (unskipped lines) ws → fold r.step s ws ≡ Ok t → fold takes s lines ≡ Ok t
   told_lines s t [] [] plain says e = e
   told_lines s t [] (w ∷ ws) plain says e = absurd says
   told_lines s t (line ∷ lines) ws plain says e =
@@ -354,70 +355,70 @@ module _ {S W A : Type 0} (r : ReaderLaw S W A) where
       told_lines q t lines vs plain.1 tells again))
       (cases_Bool (is_skipped line))
     where
-      said : (vs : List W) → is_skipped line ≡ false → AllZip r.Says (line ∷ unskipped lines) vs
+      said : (vs : List W) → is_skipped line ≡ false → AllZip (Means r.language) (line ∷ unskipped lines) vs
           → fold r.step s vs ≡ Ok t
-          → ((q : S) (more : List W) → AllZip r.Says (unskipped lines) more
+          → ((q : S) (more : List W) → AllZip (Means r.language) (unskipped lines) more
           → fold r.step q more ≡ Ok t → fold takes q lines ≡ Ok t)
           → fold takes s (line ∷ lines) ≡ Ok t
       said [] kept tells again others = absurd tells
       said (w ∷ vs) kept tells again others =
           grind (arith, bind_ok (r.step s w) _ t again, bind_at)
 
-  pub one_told : (lines : List (List ℕ)) (vs ws : List W) → AllZip r.Says lines vs
-      → AllZip r.Says lines ws → vs ≡ ws
+  pub one_told : (lines : List (List ℕ)) (vs ws : List W) → AllZip (Means r.language) lines vs
+      → AllZip (Means r.language) lines ws → vs ≡ ws
   one_told [] [] [] says again = refl
   one_told [] [] (w ∷ ws) says again = absurd again
   one_told (line ∷ lines) (v ∷ vs) [] says again = absurd again
   one_told (line ∷ lines) (v ∷ vs) (w ∷ ws) says again =
-      grind (arith, one_told lines vs ws says.1 again.1)
+      let first = sym (r.says_parse line v says.0) ∙ r.says_parse line w again.0 in
+      let others = one_told lines vs ws says.1 again.1 in cc
   one_told lines vs ws says again = absurd says
 
-  pub spelled_lines : (number : ℕ) (lines : List (List ℕ)) (plan : A) → r.Spells lines plan
+  pub spelled_lines : (number : ℕ) (lines : List (List ℕ)) (plan : A) → AreLines r.language lines plan
       → reads number lines ≡ Ok plan
   spelled_lines number lines plan spells =
-      let it = r.spelled lines plan spells in
       let f =
-      bind_ok (fold r.step r.start (r.lines_of_script plan)) r.finish plan
-      (r.script_again plan it.1) in
+      bind_ok (fold r.step r.start (r.language.lines_of plan)) r.finish plan
+      (r.script_again plan spells.script) in
       leads_read takes r.finish r.start number lines plan
-      (bind_at _ _ _ _ (told_lines r.start f.0 lines (r.lines_of_script plan) it.0.plain it.0.says
-      f.1) f.2)
+      (bind_at _ _ _ _ (told_lines r.start f.0 lines (r.language.lines_of plan)
+      spells.plain spells.says f.1) f.2)
 
-  pub one_script : (lines : List (List ℕ)) (plan other : A) → r.Spells lines plan
-      → r.Spells lines other → plan ≡ other
+  pub one_script : (lines : List (List ℕ)) (plan other : A) → AreLines r.language lines plan
+      → AreLines r.language lines other → plan ≡ other
   one_script lines plan other spells again =
       let both = sym (spelled_lines 1 lines plan spells) ∙ spelled_lines 1 lines other again in cc
 
-  pub one_said : (line : List ℕ) (v w : W) → r.Says line v → r.Says line w → v ≡ w
+  pub one_said : (line : List ℕ) (v w : W) → (Means r.language) line v → (Means r.language) line w → v ≡ w
   one_said line v w says again =
       let both = sym (r.says_parse line v says) ∙ r.says_parse line w again in cc
 
   pub end_is_script : (s : S) (number : ℕ) (lines : List (List ℕ))
-      → read_by takes r.finish s number [] ≡ reads 1 lines → IfOk (r.finish s) r.IsScript
+      → read_by takes r.finish s number [] ≡ reads 1 lines → IfOk (r.finish s) r.language.IsScript
   end_is_script s number lines e = by_end (r.finish s) e
     where
       by_end : (end : Result A Refusal) → at_line number end ≡ reads 1 lines
-          → IfOk end r.IsScript
-      by_end (Ok plan) same = (r.spelled lines plan (lines_spell 1 lines plan (sym same))).1
+          → IfOk end r.language.IsScript
+      by_end (Ok plan) same = (lines_spell 1 lines plan (sym same)).script
       by_end (Err refusal) same = tt
 
   no_fault_read : (lines : List (List ℕ)) (plan : A) (fault : Fault) (line : Option ℕ)
-      → fault.line ≡ line → IsFault line fault (reads 1 lines) → r.Spells lines plan
-      → fault ≡ is_memory
+      → fault.line ≡ line → IsFault line fault (reads 1 lines) → AreLines r.language lines plan
+      → fault ≡ memory_fault
   no_fault_read lines plan fault None is read spells = memory_is fault None is refl read
   no_fault_read lines plan fault (Some number) is read spells =
       absurd (let both = sym (spelled_lines 1 lines plan spells) ∙ read in cc)
 
   pub found : (lines : List (List ℕ)) (answer : Result A Fault) → ReadsLine answer (reads 1 lines)
-      → IfOk answer (λ plan. r.Spells lines plan)
+      → IfOk answer (λ plan. AreLines r.language lines plan)
   found lines (Ok plan) read = lines_spell 1 lines plan read
   found lines (Err fault) read = tt
 
   -- If the lines are the script's, the reader returns the script, or reports out of memory.
   pub only : (IsAnswer : Result A Fault → Type 0) (lines : List (List ℕ)) (plan : A)
       (answer : Result A Fault) → ((script : A) → script ≡ plan → IsAnswer (Ok script))
-      → ((fault : Fault) → fault ≡ is_memory → IsAnswer (Err fault))
-      → ReadsLine answer (reads 1 lines) → r.Spells lines plan → IsAnswer answer
+      → ((fault : Fault) → fault ≡ memory_fault → IsAnswer (Err fault))
+      → ReadsLine answer (reads 1 lines) → AreLines r.language lines plan → IsAnswer answer
   only IsAnswer lines plan (Ok script) same memory read spells =
       same script (let both = sym read ∙ spelled_lines 1 lines plan spells in cc)
   only IsAnswer lines plan (Err fault) same memory read spells =

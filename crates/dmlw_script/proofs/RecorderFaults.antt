@@ -31,18 +31,16 @@ use Rattle.dmlw_script.specs.inside.Stages as heads
 use Rattle.dmlw_script.specs.inside.Heads.{head_step}
 use Rattle.dmlw_script.specs.inside.Drafts.{◌>>=◌, body_step, ended_next, named_next, as_refusal}
 use Rattle.dmlw_script.specs.inside.Drafts.{step_test, with_command, Body}
-use Rattle.dmlw_script.specs.Grammar.{AreLinesOf}
 use Rattle.dmlw_script.specs.Words.{same_name}
 use Rattle.dmlw_script.specs.Plans.{named_disk, least_sectors, time_after, request_of, step_answer}
 use Rattle.dmlw_script.specs.Plans.{submission_answer, top_of, Disk, ScriptValue, head_of}
 use Rattle.dmlw_script.specs.Plans.{layer_line, lines_of_body, time_at_step, time_from}
 use Rattle.dmlw_script.specs.inside.Readers.{body_line, crash_line, finish_step, finished}
 use Rattle.dmlw_script.specs.inside.Readers.{has_begun, parsed_step, Progress}
-use Rattle.dmlw_script.specs.FirstFault.{at_end, bad_line, bare, body_refusal, data_due}
-use Rattle.dmlw_script.specs.FirstFault.{head_refusal, in_body, in_head, log_due, next}
-use Rattle.dmlw_script.specs.FirstFault.{prefix_after, refused, test_refusal, BeginsScript}
-use Rattle.dmlw_script.specs.FirstFault.{ComesInTime, FaultAfter, IsFirstFault, IsLineAfter}
-use Rattle.dmlw_script.specs.FirstFault.{IsLineFault, Prefix, MayFollowInScript, line_refusal}
+use Rattle.dmlw_script.specs.FirstFault.{at_end, bare, body_refusal, data_due, head_refusal}
+use Rattle.dmlw_script.specs.FirstFault.{in_body, in_head, line_refusal, log_due, next}
+use Rattle.dmlw_script.specs.FirstFault.{prefix_after, recorder_order, test_refusal, ComesInTime}
+use Rattle.dmlw_script.specs.FirstFault.{Prefix, MayFollowInScript}
 use Rattle.dmlw_script.proofs.ReaderLaws.{barred_err, made_err}
 use Rattle.dmlw_script.proofs.BodyLaws.{in_draft, unlisted}
 use Rattle.dmlw_script.proofs.DraftLemmas.{listed}
@@ -242,7 +240,7 @@ stood_head (heads.Whole d l size) [] (head_lines.Layer disks.Log asked) stands =
 stood_head h body line stands = absurd stands
 
 head_refusal_is : (plan : ScriptValue) (over : DiskName) (asked : Result LayerSpec TableError)
-    → head_refusal plan (head_lines.Layer over asked)
+    → head_refusal (λ over. named_disk over plan) plan.log_size (head_lines.Layer over asked)
     ≡ asked_refusal (least_sectors over plan.log_size) (named_disk over plan) asked
 head_refusal_is plan over (Err error) = refl
 head_refusal_is plan over (Ok spec) = refl
@@ -271,54 +269,12 @@ line_refuses p (parsed_lines.Head line) refusal e =
 line_refuses p (parsed_lines.Body line) refusal e = body_refuses p.head p.body line refusal e
 line_refuses p (parsed_lines.Crash picks) refusal e = crash_refuses p.head p.body picks refusal e
 
-pub why_fault : (before : List (List ℕ)) (line : List ℕ) (refusal : Refusal)
-    → IsLineFault before line refusal
-    → (((s : LineMeaning) → IsLineAfter before line s → ⊥) × (refusal ≡ BadLine))
-    ⊎ ((s : LineMeaning) × (plan : ScriptValue) × IsLineAfter before line s × AreLinesOf before plan
-    × (line_refusal plan s ≡ Some refusal))
-why_fault before line refusal (bad_line never) = inl (never, refl)
-why_fault before line refusal (refused s plan why at spells is) = inr (s, plan, at, spells, is)
-
 abbrev pub recorder_faults : ReaderFaults recorder Prefix
 recorder_faults = record {
-  after = prefix_after data_due;
-  Stands = MayFollowInScript;
+  order = recorder_order;
   prefix_of = prefix_at;
   after_lines = λ p. after_lines p.head p.body;
-  line_refusal = line_refusal;
   step_refused = line_refuses;
   completes = λ p number begun. completes p.head p.body number;
   unfinished_is = λ p. unfinished_is p.head p.body;
-  Begins = BeginsScript;
-  begins = λ lines more plan spells. record { more = more; plan = plan; spells = spells };
-  begun = λ lines it. (it.more, it.plan, it.spells);
-  LineAfter = IsLineAfter;
-  line_after = λ before line s said plain says before_says stands. record {
-    plain = plain;
-    says = says;
-    said = said;
-    before_says = before_says;
-    stands = stands;
-  };
-  line_parts = λ before line s it. (it.plain, it.says, it.said, it.before_says, it.stands);
-  LineFault = IsLineFault;
-  bad_line = λ before line never. bad_line never;
-  refused = λ before line s plan refusal at spells is. refused s plan refusal at spells is;
-  why = why_fault;
-  FaultAfter = FaultAfter;
-  fault_end = λ before refusal is none. (is, none);
-  end_fault = λ before refusal it. it;
-  fault_line = λ before line more refusal none fault. (none, fault);
-  line_fault = λ before line more refusal it. it;
-  FirstFault = IsFirstFault;
-  first = λ lines before more line refusal split place begins fault. record {
-    before = before;
-    more = more;
-    split = split;
-    place = place;
-    begins = begins;
-    fault = fault;
-  };
-  first_parts = λ lines line refusal it.
-      (it.before, it.more, it.split, it.place, it.begins, it.fault);
 }

@@ -26,7 +26,7 @@ use Rattle.dmlw_script.specs.inside.Heads.{data_layer, head_step, with_data, wit
 use Rattle.dmlw_script.specs.inside.Drafts.{◌>>=◌, body_step, Body}
 use Rattle.dmlw_script.specs.Fields.{disk_word, fields_of, number, option_fields, submission_fields}
 use Rattle.dmlw_script.specs.Fields.{Byte, Given, HasFields, Number, One, Says, Text}
-use Rattle.dmlw_script.specs.Grammar.{ParsesAs, AreLinesOf}
+use Rattle.dmlw_script.specs.Grammar.{of_recorder, ParsesAs}
 use Rattle.dmlw_script.specs.Plans.{data_line, log_line, head_of, lines_of_body, layer_line}
 use Rattle.dmlw_script.specs.Plans.{lines_of_script, top_of, with_ending, ArePicks, Disk, IsPlan}
 use Rattle.dmlw_script.specs.Plans.{ScriptValue, WritesByte}
@@ -311,20 +311,15 @@ script_again plan is =
 abbrev pub recorder : ReaderLaw Progress LineMeaning ScriptValue
 recorder = record {
   parse = parse_line;
-  Says = ParsesAs;
+  language = of_recorder;
   parse_says = parsed_read;
   says_parse = parsed_again;
   start = unread;
   step = parsed_step;
   finish = finish_step;
-  lines_of_script = lines_of_script;
-  IsScript = IsPlan;
-  Spells = AreLinesOf;
-  spells = λ lines plan told is. record { plain = told.plain; says = told.says; script = is };
-  spelled = λ lines plan it. (record { plain = it.plain; says = it.says }, it.script);
   IsFine = IsFineLine;
   fine_said = fine_said;
-  HasReadPrefix = HasReadPrefix;
+  IsBegun = HasReadPrefix;
   lines_so_far = lines_of_progress;
   start_begun = (tt, refl);
   start_lines = refl;

@@ -17,14 +17,11 @@ use Rattle.dmlw_script.specs.declared.run_line.RunLine.{RunLine}
 use Rattle.dmlw_script.specs.declared.run_line.RunLine.TheVariants as run_lines
 use Rattle.dmlw_script.specs.declared.run_line.SeatCall.{SeatCall}
 use Rattle.dmlw_script.specs.Plans.{least_sectors, top_of, Disk}
-use Rattle.dmlw_script.specs.FirstFault.{bare}
-use Rattle.dmlw_script.specs.Grammar.{AreRunLines}
+use Rattle.dmlw_script.specs.FirstFault.{bare, head_refusal}
 use Rattle.dmlw_script.specs.RunPlans.{call_answer, data_layer, log_layer, RunPlan}
-use Rattle.dmlw_script.specs.RunFirstFault.{at_end, bad_line, data_due, head_refusal, in_body}
-use Rattle.dmlw_script.specs.RunFirstFault.{in_head, next, line_refusal, log_due, prefix_after}
-use Rattle.dmlw_script.specs.RunFirstFault.{refused, run_disk, seats_due, BeginsRun}
-use Rattle.dmlw_script.specs.RunFirstFault.{IsFirstRunFault, IsRunLineAfter, IsRunLineFault}
-use Rattle.dmlw_script.specs.RunFirstFault.{RunFaultAfter, RunPrefix, MayFollowInRun}
+use Rattle.dmlw_script.specs.RunFirstFault.{at_end, data_due, in_body, in_head, next}
+use Rattle.dmlw_script.specs.RunFirstFault.{line_refusal, log_due, prefix_after, run_disk}
+use Rattle.dmlw_script.specs.RunFirstFault.{run_order, seats_due, RunPrefix, MayFollowInRun}
 use Rattle.dmlw_script.specs.inside.Drafts.{as_refusal}
 use Rattle.dmlw_script.specs.inside.Heads.{head_step}
 use Rattle.dmlw_script.specs.inside.Readers.{RunProgress, call_line, finished_run, is_closed}
@@ -118,7 +115,7 @@ Refuses q said refusal =
     × (line_refusal plan said ≡ Some refusal))
 
 head_refusal_is : (plan : RunPlan) (over : DiskName) (asked : Result LayerSpec TableError) →
-    head_refusal plan (head_lines.Layer over asked)
+    head_refusal (λ over. run_disk over plan) plan.log_size (head_lines.Layer over asked)
     ≡ asked_refusal (least_sectors over plan.log_size) (run_disk over plan) asked
 head_refusal_is plan over (Err error) = refl
 head_refusal_is plan over (Ok spec) = refl
@@ -213,54 +210,12 @@ said_refused q (run_lines.Seats count) refusal e =
     seats_refused q.head q.seats q.calls count refusal e
 said_refused q (run_lines.Body line) refusal e = call_refused q.head q.seats q.calls line refusal e
 
-pub why_fault : (before : List (List ℕ)) (line : List ℕ) (refusal : Refusal)
-    → IsRunLineFault before line refusal
-    → (((s : RunLine) → IsRunLineAfter before line s → ⊥) × (refusal ≡ BadLine))
-    ⊎ ((s : RunLine) × (plan : RunPlan) × IsRunLineAfter before line s × AreRunLines before plan
-    × (line_refusal plan s ≡ Some refusal))
-why_fault before line refusal (bad_line never) = inl (never, refl)
-why_fault before line refusal (refused s plan why at spells is) = inr (s, plan, at, spells, is)
-
 abbrev pub runner_faults : ReaderFaults runner RunPrefix
 runner_faults = record {
-  after = prefix_after data_due;
-  Stands = MayFollowInRun;
+  order = run_order;
   prefix_of = prefix_at;
   after_lines = λ p. after_lines p.head p.seats p.calls;
-  line_refusal = line_refusal;
   step_refused = said_refused;
   completes = λ p number. completes p.head p.seats p.calls number;
   unfinished_is = λ p. unfinished_is p.head p.seats p.calls;
-  Begins = BeginsRun;
-  begins = λ lines more plan spells. record { more = more; plan = plan; spells = spells };
-  begun = λ lines it. (it.more, it.plan, it.spells);
-  LineAfter = IsRunLineAfter;
-  line_after = λ before line s said plain says before_says stands. record {
-    plain = plain;
-    says = says;
-    said = said;
-    before_says = before_says;
-    stands = stands;
-  };
-  line_parts = λ before line s it. (it.plain, it.says, it.said, it.before_says, it.stands);
-  LineFault = IsRunLineFault;
-  bad_line = λ before line never. bad_line never;
-  refused = λ before line s plan refusal at spells is. refused s plan refusal at spells is;
-  why = why_fault;
-  FaultAfter = RunFaultAfter;
-  fault_end = λ before refusal is none. (is, none);
-  end_fault = λ before refusal it. it;
-  fault_line = λ before line more refusal none fault. (none, fault);
-  line_fault = λ before line more refusal it. it;
-  FirstFault = IsFirstRunFault;
-  first = λ lines before more line refusal split place begins fault. record {
-    before = before;
-    more = more;
-    split = split;
-    place = place;
-    begins = begins;
-    fault = fault;
-  };
-  first_parts = λ lines line refusal it.
-      (it.before, it.more, it.split, it.place, it.begins, it.fault);
 }

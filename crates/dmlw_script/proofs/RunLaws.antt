@@ -39,7 +39,7 @@ use Rattle.dmlw_script.specs.declared.run_line.SeatCall.{SeatCall}
 use Rattle.dmlw_script.specs.Fields.{submission_word, Says as SaysLine, Seat, all_of, call_fields}
 use Rattle.dmlw_script.specs.Fields.{run_fields, HasFields, IsLineWith, IsWord}
 use Rattle.dmlw_script.specs.FirstFault.{bare}
-use Rattle.dmlw_script.specs.Grammar.{AreRunLines, MeansLine}
+use Rattle.dmlw_script.specs.Grammar.{of_run, MeansLine}
 use Rattle.dmlw_script.specs.inside.Drafts.{◌>>=◌, as_refusal}
 use Rattle.dmlw_script.specs.inside.Heads.{head_step, with_log}
 use Rattle.dmlw_script.specs.inside.Heads as heads_inside
@@ -409,17 +409,12 @@ script_read plan is =
 abbrev pub runner : ReaderLaw RunProgress RunLine RunPlan
 runner = record {
   parse = parse_run_line;
-  Says = MeansLine;
+  language = of_run;
   parse_says = says_run;
   says_parse = parses_run;
   start = nothing_read;
   step = said_step;
   finish = run_finish_step;
-  lines_of_script = lines_of_run;
-  IsScript = IsRunPlan;
-  Spells = AreRunLines;
-  spells = λ lines plan told is. record { plain = told.plain; says = told.says; script = is };
-  spelled = λ lines plan it. (record { plain = it.plain; says = it.says }, it.script);
   IsFine = IsFineRunLine;
   fine_said = fine_run_line;
   IsBegun = IsRunBegun;

@@ -1,13 +1,15 @@
 -- The fault of a text that is no recorder's script: the first line at fault, and the refusal.
-use Rattle.std.specs.Prelude.{◌≡◌, ℕ, ◌+◌, ◌<◌, Bool, true, false, not, List, [], ◌∷◌, ◌++◌, Option}
+use Rattle.std.specs.Prelude.{◌≡◌, ℕ, ◌<◌, Bool, true, false, not, List, [], ◌∷◌, ◌++◌, Option}
 use Rattle.std.specs.Prelude.{Some, None, Err, Result, Ok, length, nat_le, if◌then◌else◌}
-use Rattle.std.specs.List.{list_any, AllZip}
+use Rattle.std.specs.List.{list_any}
 use Rattle.bio.specs.Refusals.{bad_bio_refusal}
 use Rattle.bio.specs.Requests.{bytes_of}
 use Rattle.refusals.specs.declared.refusal.Refusal.{Refusal}
-use Rattle.refusals.specs.declared.refusal.Refusal.TheVariants.{BadLine, BadId, Memory, OutOfRange}
+use Rattle.refusals.specs.declared.refusal.Refusal.TheVariants.{BadLine, BadId, OutOfRange}
 use Rattle.bio.specs.declared.request.BadBio.{BadBio}
 use Rattle.refusals.specs.declared.run_error.Fault.{Fault}
+use Rattle.bio.specs.declared.request.SectorSize.{SectorSize}
+use Rattle.dmlw_script.specs.declared.command.DiskName.{DiskName}
 use Rattle.dmlw_script.specs.declared.command.DiskName.TheVariants as disks
 use Rattle.dmlw_script.specs.LineMeaning.{LineMeaning}
 use Rattle.dmlw_script.specs.LineMeaning as parsed_lines
@@ -15,19 +17,14 @@ use Rattle.dmlw_script.specs.declared.line.HeadLine.{HeadLine}
 use Rattle.dmlw_script.specs.declared.line.HeadLine.TheVariants as head_lines
 use Rattle.dmlw_script.specs.declared.line.BodyLine.{BodyLine}
 use Rattle.dmlw_script.specs.declared.line.BodyLine.TheVariants as body_lines
-use Rattle.dmlw_script.specs.Grammar.{ParsesAs, AreLinesOf}
-use Rattle.dmlw_script.specs.Words.{same_name, is_ascii_line, unskipped, lines_of}
+use Rattle.dmlw_script.specs.Grammar.{of_recorder}
+use Rattle.dmlw_script.specs.Language.{after_all, IsFault, IsFirst, Order}
+use Rattle.dmlw_script.specs.Words.{same_name, lines_of}
 use Rattle.dmlw_script.specs.Plans.{named_disk, is_disk_size, is_ended, is_log_disk_size, layer_is_within}
 use Rattle.dmlw_script.specs.Plans.{least_sectors, time_at_step, request_of, step_answer}
 use Rattle.dmlw_script.specs.Plans.{submission_answer, top_of, Disk, IsInTime, ScriptValue}
 use Rattle.layer_table.specs.declared.layer_spec.LayerSpec.{LayerSpec}
 use Rattle.layer_table.specs.TableLines.{table_refusal}
-
--- `lines` are a prefix of the lines of a recorder's script
-pub record BeginsScript (lines : List (List ℕ)) : Type 0 where
-  pub more : List (List ℕ)
-  pub plan : ScriptValue
-  pub spells : AreLinesOf (lines ++ more) plan
 
 -- How much of a script was read, as far as the next line depends on it. `data_due`: nothing.
 -- `log_due`: the line of the data disk. `in_head`: the lines of both disks, and any layers.
@@ -70,11 +67,6 @@ next (in_body data_disk log_disk time) (parsed_lines.Body line) =
     in_body data_disk log_disk (time_at_line time line)
 next _ _ = at_end
 
--- how much was read, starting from `prefix`, after lines with these meanings
-abbrev pub prefix_after : Prefix → List LineMeaning → Prefix
-prefix_after prefix [] = prefix
-prefix_after prefix (s ∷ ss) = prefix_after (next prefix s) ss
-
 -- if the line of the body sets the time, the new time is at least `time`
 abbrev pub ComesInTime : ℕ → BodyLine → Type 0
 ComesInTime time (body_lines.Submit name submission) = Unit {0}
@@ -103,15 +95,6 @@ MayFollowInScript (in_body data_disk log_disk time)
 MayFollowInScript (in_body data_disk log_disk time) (parsed_lines.Crash picks) = Unit {0}
 MayFollowInScript _ _ = ⊥
 
--- The line `line` has the meaning `s`, and may follow the lines `before`. Each unskipped line of
--- `before` has a meaning.
-pub record IsLineAfter (before : List (List ℕ)) (line : List ℕ) (s : LineMeaning) : Type 0 where
-  pub plain : is_ascii_line line ≡ true
-  pub says : ParsesAs line s
-  pub said : List LineMeaning
-  pub before_says : AllZip ParsesAs (unskipped before) said
-  pub stands : MayFollowInScript (prefix_after data_due said) s
-
 -- the request was submitted (`Some`, with its number), and hasn't ended
 abbrev pub is_open : Option ℕ → ScriptValue → Bool
 is_open None plan = false
@@ -135,64 +118,44 @@ body_refusal plan (body_lines.Complete name) =
 body_refusal plan (body_lines.Step step) =
     test_refusal (step_answer (bytes_of plan.log_size) (top_of plan.data_disk) step)
 
--- The refusal of a line of the head after the lines of `plan`, if there is one. Only a layer's line
--- is refused. If it asks for no layer, the refusal is the one for its table line. If the layer
--- isn't within the device below it, the refusal is `OutOfRange`. If the layer has too few sectors,
--- the refusal is `BadLine`.
-abbrev pub head_refusal : ScriptValue → HeadLine → Option Refusal
-head_refusal plan (head_lines.Data sectors) = None
-head_refusal plan (head_lines.Log sectors size) = None
-head_refusal plan (head_lines.Layer over (Err error)) = Some (table_refusal error)
-head_refusal plan (head_lines.Layer over (Ok spec)) =
-    if layer_is_within spec (top_of (named_disk over plan)) then
-    (if nat_le (least_sectors over plan.log_size) spec.length then None else Some BadLine)
+-- The refusal of a line of the head after the lines of a script with these disks, if there is one.
+-- Only a layer's line is refused. If it asks for no layer, the refusal is the one for its table
+-- line. If the layer isn't within the device below it, the refusal is `OutOfRange`. If the layer
+-- has too few sectors, the refusal is `BadLine`.
+abbrev pub head_refusal : (DiskName → Disk) → SectorSize → HeadLine → Option Refusal
+head_refusal disk size (head_lines.Data sectors) = None
+head_refusal disk size (head_lines.Log sectors log_sectors) = None
+head_refusal disk size (head_lines.Layer over (Err error)) = Some (table_refusal error)
+head_refusal disk size (head_lines.Layer over (Ok spec)) =
+    if layer_is_within spec (top_of (disk over)) then
+    (if nat_le (least_sectors over size) spec.length then None else Some BadLine)
     else Some OutOfRange
 
 -- the refusal of a line after the lines of `plan`, if there is one
 abbrev pub line_refusal : ScriptValue → LineMeaning → Option Refusal
-line_refusal plan (parsed_lines.Head line) = head_refusal plan line
+line_refusal plan (parsed_lines.Head line) =
+    head_refusal (λ over. named_disk over plan) plan.log_size line
 line_refusal plan (parsed_lines.Body line) = body_refusal plan line
 line_refusal plan (parsed_lines.Crash picks) = None
 
--- The refusal of `line` after the lines `before`. Either `line` isn't of the grammar there, and the
--- refusal is `BadLine`. Or `before` are the lines of a script, after which `line` is refused.
-pub data IsLineFault (before : List (List ℕ)) (line : List ℕ) : Refusal → Type 0 where
-  bad_line : ((s : LineMeaning) → IsLineAfter before line s → ⊥) → IsLineFault before line BadLine
-  refused : (s : LineMeaning) (plan : ScriptValue) (refusal : Refusal) → IsLineAfter before line s
-      → AreLinesOf before plan → line_refusal plan s ≡ Some refusal →
-      IsLineFault before line refusal
+-- how much was read, starting from `prefix`, after lines with these meanings
+abbrev pub prefix_after : Prefix → List LineMeaning → Prefix
+prefix_after prefix ss = after_all next prefix ss
 
--- The refusal at the first of the lines after `before`. If there is none, `before` are no script,
--- and the refusal is `BadLine`. Otherwise `before` with the next line are no prefix of a script,
--- and `IsLineFault` gives the refusal.
-abbrev pub FaultAfter : List (List ℕ) → List (List ℕ) → Refusal → Type 0
-FaultAfter before [] refusal =
-    (refusal ≡ BadLine) × ((plan : ScriptValue) → AreLinesOf before plan → ⊥)
-FaultAfter before (line ∷ more) refusal =
-    (BeginsScript (before ++ line ∷ []) → ⊥) × IsLineFault before line refusal
+-- the order of the lines of a recorder's script, and their refusals
+abbrev pub recorder_order : Order LineMeaning ScriptValue Prefix
+recorder_order = record {
+  start = data_due;
+  next = next;
+  MayFollow = MayFollowInScript;
+  refusal = line_refusal;
+}
 
--- `line` is the number, from 1, of the first line at fault, and `refusal` is why. The lines before
--- line `line` are a prefix of a script. If the text ends too early, `line` is one more than the
--- number of lines.
-pub record IsFirstFault (lines : List (List ℕ)) (line : ℕ) (refusal : Refusal) : Type 0 where
-  pub before : List (List ℕ)
-  pub more : List (List ℕ)
-  pub split : lines ≡ before ++ more
-  pub place : line ≡ length before + 1
-  pub begins : BeginsScript before
-  pub fault : FaultAfter before more refusal
-
--- the fault that reports that memory ran out
-abbrev pub is_memory : Fault
-is_memory = record { line = None; refusal = Memory }
+-- the line with this number is the first at fault, and `refusal` is why (`IsFirst`)
+abbrev pub IsFirstFault : List (List ℕ) → ℕ → Refusal → Type 0
+IsFirstFault lines line refusal = IsFirst of_recorder recorder_order lines line refusal
 
 -- A fault that names a line names the first line at fault. A fault that names no line reports that
 -- memory ran out.
 abbrev pub IsFaultOf : List ℕ → Fault → Option ℕ → Type 0
-IsFaultOf text fault (Some line) = IsFirstFault (lines_of text) line fault.refusal
-IsFaultOf text fault None = fault ≡ is_memory
-
--- The result is the script `plan`, or memory ran out.
-abbrev pub ReadsScript : ScriptValue → Result ScriptValue Fault → Type 0
-ReadsScript plan (Ok script) = script ≡ plan
-ReadsScript plan (Err fault) = fault ≡ is_memory
+IsFaultOf text fault line = IsFault of_recorder recorder_order (lines_of text) fault line

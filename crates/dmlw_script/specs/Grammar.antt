@@ -1,15 +1,15 @@
 -- The grammars of both kinds of scripts, as relations between texts and scripts, and the canonical
 -- text of a script.
-use Rattle.std.specs.Prelude.{length, slice_get, ◌≡◌, ℕ, true, ◌+◌, List, [], ◌∷◌, ◌++◌, Option}
+use Rattle.std.specs.Prelude.{length, slice_get, ◌≡◌, ℕ, ◌+◌, List, [], ◌∷◌, ◌++◌, Option}
 use Rattle.std.specs.Prelude.{Some, None, flat_map}
-use Rattle.std.specs.List.{AllByRecursion, AllZip}
+use Rattle.dmlw_script.specs.Language.{AreLines, Language}
 use Rattle.dmlw_script.specs.declared.run_line.RunLine.{RunLine}
 use Rattle.dmlw_script.specs.declared.run_line.RunLine.TheVariants as run_lines
 use Rattle.dmlw_script.specs.declared.run_line.SeatCall.{SeatCall}
 use Rattle.dmlw_script.specs.Fields.{run_fields, fields_of, fields_text, IsLineWith}
 use Rattle.dmlw_script.specs.LineMeaning.{LineMeaning}
 use Rattle.dmlw_script.specs.LineMeaning as parsed_lines
-use Rattle.dmlw_script.specs.Words.{is_ascii_line, unskipped, lines_of}
+use Rattle.dmlw_script.specs.Words.{lines_of, unskipped}
 use Rattle.dmlw_script.specs.Plans.{IsPlan, ScriptValue, head_count, lines_after_head}
 use Rattle.dmlw_script.specs.Plans.{lines_of_script}
 use Rattle.dmlw_script.specs.RunPlans.{lines_of_run, IsRunPlan, RunPlan}
@@ -20,12 +20,13 @@ use Rattle.dmlw_script.specs.RunPlans.{lines_of_run, IsRunPlan, RunPlan}
 abbrev pub ParsesAs : List ℕ → LineMeaning → Type 0
 ParsesAs line meaning = IsLineWith line (fields_of meaning)
 
--- `lines` are the lines of the recorder's script `plan`. Each line is ASCII without zero bytes. The
--- unskipped lines have the meanings of the script's lines, in their order.
-pub record AreLinesOf (lines : List (List ℕ)) (plan : ScriptValue) : Type 0 where
-  pub plain : AllByRecursion (λ line. is_ascii_line line ≡ true) lines
-  pub says : AllZip ParsesAs (unskipped lines) (lines_of_script plan)
-  pub script : IsPlan plan
+-- the recorder's scripts
+abbrev pub of_recorder : Language LineMeaning ScriptValue
+of_recorder = record { fields = fields_of; lines_of = lines_of_script; IsScript = IsPlan }
+
+-- `lines` are the lines of the recorder's script `plan` (`AreLines`)
+abbrev pub AreLinesOf : List (List ℕ) → ScriptValue → Type 0
+AreLinesOf lines plan = AreLines of_recorder lines plan
 
 -- the text is a text of the script `plan`
 abbrev pub IsTextOf : List ℕ → ScriptValue → Type 0
@@ -71,12 +72,13 @@ canonical_text plan = flat_map ended_line (lines_of_script plan)
 abbrev pub MeansLine : List ℕ → RunLine → Type 0
 MeansLine line said = IsLineWith line (run_fields said)
 
--- `lines` are the lines of the run's script `plan`. Each line is ASCII without zero bytes. The
--- unskipped lines have the meanings of the script's lines, in their order.
-pub record AreRunLines (lines : List (List ℕ)) (plan : RunPlan) : Type 0 where
-  pub plain : AllByRecursion (λ line. is_ascii_line line ≡ true) lines
-  pub says : AllZip MeansLine (unskipped lines) (lines_of_run plan)
-  pub script : IsRunPlan plan
+-- the scripts of a run
+abbrev pub of_run : Language RunLine RunPlan
+of_run = record { fields = run_fields; lines_of = lines_of_run; IsScript = IsRunPlan }
+
+-- `lines` are the lines of the run's script `plan` (`AreLines`)
+abbrev pub AreRunLines : List (List ℕ) → RunPlan → Type 0
+AreRunLines lines plan = AreLines of_run lines plan
 
 -- the text is a text of the script `plan`
 abbrev pub IsRunText : List ℕ → RunPlan → Type 0

@@ -6,6 +6,7 @@ pub use Rattle.layer_table.specs.Layers
 pub mod Words
 pub mod LineMeaning
 pub mod Fields
+pub mod Language
 pub mod Plans
 pub mod Grammar
 pub mod FirstFault

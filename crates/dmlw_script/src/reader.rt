@@ -11,7 +11,8 @@ ghost use Rattle.dmlw_script.specs.Words.{is_skipped as is_a_skipped_line, comma
 ghost use Rattle.dmlw_script.specs.Words.{is_ascii_line as is_plain_line};
 ghost use Rattle.dmlw_script.specs.Grammar.{IsTextOf};
 ghost use Rattle.dmlw_script.specs.Plans.{ScriptValue};
-ghost use Rattle.dmlw_script.specs.FirstFault.{IsFaultOf, ReadsScript};
+ghost use Rattle.dmlw_script.specs.FirstFault.{IsFaultOf};
+ghost use Rattle.dmlw_script.specs.Language.{IsReadAs};
 ghost use Rattle.dmlw_script.specs.inside.Readers.{fault_of, read_text, ReadsLine};
 
 use crate::command::Step;
@@ -281,7 +282,7 @@ pub fn read_script(alloc: Global, text: &[u8]) -> Result<Script, Fault>
     // If the result is a script, the text is a text of this script.
     ensures found { IfOk result (λ script. IsTextOf text.now script) }
     // If the text is a text of a script, the result is this script, or memory ran out.
-    ensures only { (plan : ScriptValue) → IsTextOf text.now plan → ReadsScript plan result }
+    ensures only { (plan : ScriptValue) → IsTextOf text.now plan → IsReadAs plan result }
     // A fault names the first line at fault, or reports that memory ran out.
     ensures fault { IfErr result (λ fault. IsFaultOf text.now fault fault.line) }
 {

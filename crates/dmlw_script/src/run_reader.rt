@@ -4,7 +4,8 @@ ghost use Rattle.std.specs.Prelude.{IfErr, IfOk};
 ghost use Rattle.bio.specs.Requests.{bytes_of};
 ghost use Rattle.dmlw_script.specs.Grammar.{IsRunText};
 ghost use Rattle.dmlw_script.specs.RunPlans.{call_answer, RunPlan};
-ghost use Rattle.dmlw_script.specs.RunFirstFault.{IsReadAsRun, IsRunFaultAt};
+ghost use Rattle.dmlw_script.specs.Language.{IsReadAs};
+ghost use Rattle.dmlw_script.specs.RunFirstFault.{IsRunFaultAt};
 ghost use Rattle.dmlw_script.specs.inside.Drafts.{as_refusal, AgreesWithStep};
 ghost use Rattle.dmlw_script.specs.inside.Readers.{ReadsLine, read_run_text};
 
@@ -174,7 +175,7 @@ pub fn read_run_script(alloc: Global, text: &[u8]) -> Result<RunScript, Fault>
     // If the result is a script, the text is a text of this script.
     ensures found { IfOk result (λ script. IsRunText text.now script) }
     // If the text is a text of a run's script, the result is this script, or memory ran out.
-    ensures only { (plan : RunPlan) → IsRunText text.now plan → IsReadAsRun plan result }
+    ensures only { (plan : RunPlan) → IsRunText text.now plan → IsReadAs plan result }
     // A fault names the first line at fault, or reports that memory ran out.
     ensures fault { IfErr result (λ fault. IsRunFaultAt text.now fault fault.line) }
 {

@@ -1,5 +1,5 @@
 use Rattle.dmlw_script.specs.Words.{lines_of}
-use Rattle.dmlw_script.specs.RunFirstFault.{IsRunFaultAt, IsReadAsRun}
+use Rattle.dmlw_script.specs.Language.{IsReadAs}
 use Rattle.dmlw_script.proofs.FaultLaws.{fault_found}
 use Rattle.dmlw_script.proofs.ReaderLaws.{found, only}
 use Rattle.dmlw_script.proofs.RunFaults.{runner_faults}
@@ -12,10 +12,9 @@ returns-clause-found c =
 
 pub returns-clause-only : goal.returns-clause-only
 returns-clause-only c plan spells =
-    only runner (IsReadAsRun plan) (lines_of c.args.text.now) plan c.read_run.result
+    only runner (IsReadAs plan) (lines_of c.args.text.now) plan c.read_run.result
     (λ script same. same) (λ fault memory. memory) c.read_run.ensures spells
 
 pub returns-clause-fault : goal.returns-clause-fault
 returns-clause-fault c =
-    fault_found runner runner_faults (IsRunFaultAt c.args.text.now) (lines_of c.args.text.now)
-    c.read_run.result (λ fault line first. first) (λ fault memory. memory) c.read_run.ensures
+    fault_found runner runner_faults (lines_of c.args.text.now) c.read_run.result c.read_run.ensures

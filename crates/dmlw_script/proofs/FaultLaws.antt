@@ -12,7 +12,7 @@ use Rattle.refusals.specs.declared.refusal.Refusal.TheVariants.{BadLine}
 use Rattle.dmlw_script.specs.Words.{is_ascii_line, is_skipped, unskipped}
 use Rattle.dmlw_script.specs.Language.{after_all, bad_line, refused, AreLines, Begins, FaultAfter}
 use Rattle.dmlw_script.specs.Language.{IsAfter, IsFault as Faulty, IsFirst, IsLineFault, Means}
-use Rattle.dmlw_script.specs.Language.{Order}
+use Rattle.dmlw_script.specs.Language.{LineOrder}
 use Rattle.dmlw_script.specs.inside.Readers.{and_then, read_by, step_if, IsFault, ReadsLine, at_line}
 use Rattle.dmlw_script.proofs.ReaderLaws.{reads, spelled_lines, takes, Reached, ReaderLaw, reached}
 use Rattle.dmlw_script.proofs.ReaderLaws.{skipped_line, strange_line, reached_spells, kept_line}
@@ -63,7 +63,7 @@ pub record CompletesScript {S W A : Type 0} (r : ReaderLaw S W A) (s : S) (numbe
 -- The facts about a reader from which the laws of its first faults follow.
 -- A value of type `P` is how much of a script was read, as far as the next line depends on it.
 pub record ReaderFaults {S W A : Type 0} (r : ReaderLaw S W A) (P : Type 0) : Type 1 where
-  pub order : Order W A P
+  pub order : LineOrder W A P
   pub prefix_of : S → P
   pub after_lines : (s : S) → r.IsBegun s
       → after_all order.next order.start (r.lines_so_far s) ≡ prefix_of s

@@ -18,7 +18,7 @@ use Rattle.dmlw_script.specs.declared.line.HeadLine.TheVariants as head_lines
 use Rattle.dmlw_script.specs.declared.line.BodyLine.{BodyLine}
 use Rattle.dmlw_script.specs.declared.line.BodyLine.TheVariants as body_lines
 use Rattle.dmlw_script.specs.Grammar.{of_recorder}
-use Rattle.dmlw_script.specs.Language.{after_all, IsFault, IsFirst, Order}
+use Rattle.dmlw_script.specs.Language.{after_all, IsFault, IsFirst, LineOrder}
 use Rattle.dmlw_script.specs.Words.{same_name, lines_of}
 use Rattle.dmlw_script.specs.Plans.{named_disk, is_disk_size, is_ended, is_log_disk_size, layer_is_within}
 use Rattle.dmlw_script.specs.Plans.{least_sectors, time_at_step, request_of, step_answer}
@@ -143,7 +143,7 @@ abbrev pub prefix_after : Prefix → List LineMeaning → Prefix
 prefix_after prefix ss = after_all next prefix ss
 
 -- the order of the lines of a recorder's script, and their refusals
-abbrev pub recorder_order : Order LineMeaning ScriptValue Prefix
+abbrev pub recorder_order : LineOrder LineMeaning ScriptValue Prefix
 recorder_order = record {
   start = data_due;
   next = next;

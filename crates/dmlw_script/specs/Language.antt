@@ -18,7 +18,7 @@ pub record Language (W A : Type 0) : Type 1 where
 
 -- In which order lines may come, and why a line is refused. `P` is how much of a script was read,
 -- as far as the next line depends on it.
-pub record Order (W A P : Type 0) : Type 1 where
+pub record LineOrder (W A P : Type 0) : Type 1 where
   -- nothing was read
   pub start : P
   -- how much was read after one more line
@@ -60,7 +60,7 @@ module _ {W A : Type 0} (k : Language W A) where
     pub plan : A
     pub spells : AreLines (lines ++ more) plan
 
-  module _ {P : Type 0} (o : Order W A P) where
+  module _ {P : Type 0} (o : LineOrder W A P) where
     -- The line `line` has the meaning `w`, and may follow the lines `before`. Each unskipped line of
     -- `before` has a meaning.
     pub record IsAfter (before : List (List ℕ)) (line : List ℕ) (w : W) : Type 0 where

@@ -12,7 +12,7 @@ use Rattle.dmlw_script.specs.Plans.{is_disk_size, is_log_disk_size}
 use Rattle.dmlw_script.specs.Plans.{top_of, Disk}
 use Rattle.dmlw_script.specs.FirstFault.{bare, head_refusal, test_refusal, with_layer}
 use Rattle.dmlw_script.specs.Grammar.{of_run}
-use Rattle.dmlw_script.specs.Language.{after_all, IsFault, IsFirst, Order}
+use Rattle.dmlw_script.specs.Language.{after_all, IsFault, IsFirst, LineOrder}
 use Rattle.dmlw_script.specs.RunPlans.{call_answer, RunPlan}
 use Rattle.dmlw_script.specs.declared.run_line.RunLine.{RunLine}
 use Rattle.dmlw_script.specs.declared.run_line.RunLine.TheVariants as run_lines
@@ -81,7 +81,7 @@ abbrev pub prefix_after : RunPrefix → List RunLine → RunPrefix
 prefix_after prefix more = after_all next prefix more
 
 -- the order of the lines of a run's script, and their refusals
-abbrev pub run_order : Order RunLine RunPlan RunPrefix
+abbrev pub run_order : LineOrder RunLine RunPlan RunPrefix
 run_order = record {
   start = data_due;
   next = next;

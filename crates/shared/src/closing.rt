@@ -2,21 +2,18 @@
 ghost use Rattle.std.specs.Prelude.{◌≡◌, ◌<◌, ◌≤◌, List, [], length, IfErr, IfOk};
 ghost use Rattle.std.specs.Prelude.{MatchBool, None, Some, is_some, true, false};
 ghost use Rattle.bio.specs.Events.{has_no_close};
-ghost use Rattle.log_format.specs.LogOf.{status_of};
 ghost use Rattle.bio.specs.Content.{Content};
 ghost use Rattle.refusals.specs.declared.run_error.End.{End as Cause};
 ghost use Rattle.refusals.specs.declared.run_error.End.TheVariants.{Full};
-ghost use Rattle.lock_state.specs.Calls.{Holds};
 ghost use Rattle.lock_state.specs.Comparison.{LegalHistory, IsTakenPrefix, Each, Receipt as Naming};
 ghost use Rattle.lock_state.specs.Comparison.{HasNoRoom, LeftUnplaced, StopsWithLog};
 ghost use Rattle.lock_state.specs.FirstStop.{HasStopCause};
-ghost use Rattle.lock_state.specs.History.{KeepsCause, Part, first_cause, seat_count, recorded_count};
-ghost use Rattle.lock_state.specs.PlacedItems.{HasEndCause, LeavesPrefix, LeavesSince, KeepsGround};
-ghost use Rattle.lock_state.specs.PlacedItems.{Stay, entries_in};
-ghost use Rattle.lock_state.specs.Receipts.{KeepsReceipt};
-ghost use Rattle.shared.specs.Close.{Agrees, Differs, IfBusy, IfForeign, IsReceipt, LeavesLog};
-ghost use Rattle.shared.specs.PlainCrash.{CrashesLeavePlainLogs, KeepsPlainReceipt};
-ghost use Rattle.shared.specs.Published.{ArePublished, IsCurrent, IsLatest, StatusHasCause, end_before};
+ghost use Rattle.lock_state.specs.History.{Part, first_cause};
+ghost use Rattle.lock_state.specs.PlacedItems.{Stay};
+ghost use Rattle.shared.specs.Close.{Agrees, AreClosedParts, Differs, IfBusy, IfForeign, IsClosed};
+ghost use Rattle.shared.specs.Close.{IsMismatched, LeavesLog};
+ghost use Rattle.shared.specs.Published.{ArePublished, IsCurrent, IsLatest, PublishedFacts};
+ghost use Rattle.shared.specs.Published.{StatusHasCause, end_before};
 
 use crate::desk::Desk;
 use crate::log_desk::LogDesk;
@@ -122,53 +119,11 @@ impl<D: BlockDev + Drop, L: BlockDev + Drop, R: Run + Names> Shared<D, L, R> {
         writer: WriterSeat<R>,
         receipts: Vec<Receipt<R>>,
     ) -> Result<Ending<D, L, R>, Unclosed<Open<D, L, R>, Mismatch<D, L, R>>>
-        ensures agrees { IfOk result
-            (λ c. Agrees (record {
-              core = c.closed.core.state;
-              by = c.closed.by.items;
-              stop = c.closed.stop;
-            })
-            c.closed.placed.items c.closed.settled c.closed.store_end c.closed.done.items
-            seats.items receipts.items) }
-        ensures legal { IfOk result
-            (λ c. LegalHistory R.sector_bytes R.sectors c.closed.core.state.events c.closed.by.items
-            seats.items) }
-        ensures closed { IfOk result (λ c. has_no_close c.closed.core.state.events ≡ false) }
-        ensures counts { IfOk result
-            (λ c. length seats.items ≡ R.parts → 0 < R.parts
-            → seat_count c.closed.by.items ≡ recorded_count seats.items) }
-        ensures receipts { IfOk result
-            (λ c. Each (IsReceipt c.closed.core.state c.closed.settled) receipts.items) }
-        ensures crash { IfOk result
-            (λ c. (L.shown c.closed.log).lies ≡ 0 → (left : Content)
-            → (L.shown c.closed.log).crash left →
-            LeavesLog R.sector_bytes
-            (L.shown c.closed.log).size c.closed.settled c.closed.core.state c.closed.end left) }
-        ensures any_moment { IfOk result (λ c. (L.shown c.closed.log).lies ≡ 0 →
-            CrashesLeavePlainLogs R.begins R.sector_bytes (L.shown c.closed.log)
-            c.closed.core.state.events) }
-        ensures told { IfOk result (λ c. (L.shown c.closed.log).lies ≡ 0 →
-            Each (KeepsPlainReceipt R.sector_bytes (L.shown c.closed.log)
-            c.closed.core.state.events) receipts.items) }
-        ensures log { IfOk result (λ c. (L.shown c.closed.log).lies ≡ 0 →
-            LeavesLog R.sector_bytes
-            (L.shown c.closed.log).size c.closed.settled c.closed.core.state c.closed.end
-            (L.shown c.closed.log).content) }
-        ensures ground { IfOk result (λ c. KeepsGround R.log (L.shown c.closed.log)) }
-        ensures status { IfOk result
-            (λ c. c.closed.status ≡ status_of R.sector_bytes
-            (entries_in c.closed.placed.items) c.closed.end) }
-        ensures holds { IfOk result
-            (λ c. (D.shown c.closed.device).lies ≡ 0
-            → Holds (D.shown c.closed.device).content c.closed.done.items) }
-        ensures end { IfOk result
-            (λ c. c.closed.end ≡ first_cause c.closed.stop c.closed.store_end) }
-        ensures size { IfOk result (λ c. c.closed.core.state.sector_bytes ≡ R.sector_bytes) }
-        ensures stop { IfOk result (λ c. KeepsCause c.closed.core.state c.closed.stop) }
-        ensures device_size { IfOk result (λ c. (D.shown c.closed.device).size ≡ R.sectors) }
-        ensures hazard { IfOk result (λ c. c.closed.hazard ≡ None) }
-        ensures taken { IfOk result (λ c. c.closed.taken ≡ c.closed.core.state.taken) }
-        ensures published { IfOk result (λ c. ArePublished R.sector_bytes c.closed.placed.items c.published) }
+        ensures closed { IfOk result (λ c. IsClosed L.does R.begins R.log R.sector_bytes R.sectors
+            R.parts (D.shown c.closed.device) (L.shown c.closed.log) seats.items receipts.items
+            c.closed) }
+        ensures published { IfOk result (λ c. PublishedFacts R.sector_bytes c.closed.placed.items
+            c.closed.stop c.closed.store_end c.released c.published) }
         ensures current { IfOk result (λ c. IsCurrent R.sector_bytes
             c.closed.placed.items c.written (end_before c.found c.closed.store_end) c.released
             receipts.items c.published) }
@@ -178,43 +133,12 @@ impl<D: BlockDev + Drop, L: BlockDev + Drop, R: Run + Names> Shared<D, L, R> {
             → StopsWithLog c.closed.stop c.closed.store_end) }
         ensures full { IfOk result (λ c. c.found ≡ None → c.closed.store_end ≡ Some Full
             → HasNoRoom R.sector_bytes R.log.size c.closed.core.state c.closed.placed.items) }
-        ensures released { IfOk result (λ c. (cause : Cause) → c.released ≡ Some cause
-            → c.closed.stop ≡ Some cause) }
-        ensures stop_cause { IfOk result (λ c. HasStopCause c.closed.stop c.closed.store_end) }
-        ensures causes { IfOk result (λ c.
-            HasEndCause L.does R.log (L.shown c.closed.log).faults c.closed.store_end) }
-        ensures ends { IfOk result
-            (λ c. Each (StatusHasCause c.closed.store_end c.released) c.published) }
-        ensures foreign { IfErr result
-            (λ e. IfForeign e (λ f. Differs
-            (record { core = f.closed.core.state; by = f.closed.by.items; stop = f.closed.stop })
-            f.closed.placed.items f.closed.settled f.closed.store_end f.closed.done.items
-            seats.items receipts.items)) }
-        ensures foreign_legal { IfErr result
-            (λ e. IfForeign e (λ f. (has_no_close f.closed.core.state.events ≡ false)
-            × LegalHistory R.sector_bytes R.sectors f.closed.core.state.events f.closed.by.items
-            [])) }
-        ensures foreign_ground { IfErr result
-            (λ e. IfForeign e (λ f. KeepsGround R.log (L.shown f.closed.log))) }
-        ensures foreign_crash { IfErr result (λ e. IfForeign e (λ f.
-            (L.shown f.closed.log).lies ≡ 0 → (left : Content)
-            → (L.shown f.closed.log).crash left →
-            LeavesPrefix R.sector_bytes (L.shown f.closed.log).size f.closed.settled
-            (entries_in f.closed.placed.items) left)) }
-        ensures foreign_status { IfErr result (λ e. IfForeign e (λ f.
-            f.closed.status ≡ status_of R.sector_bytes
-            (entries_in f.closed.placed.items) f.closed.end)) }
-        ensures foreign_holds { IfErr result (λ e. IfForeign e (λ f.
-            (D.shown f.closed.device).lies ≡ 0
-            → Holds (D.shown f.closed.device).content f.closed.done.items)) }
-        ensures foreign_end { IfErr result (λ e. IfForeign e (λ f.
-            f.closed.end ≡ first_cause f.closed.stop f.closed.store_end)) }
-        ensures foreign_size { IfErr result
-            (λ e. IfForeign e (λ f. f.closed.core.state.sector_bytes ≡ R.sector_bytes)) }
-        ensures foreign_stop { IfErr result
-            (λ e. IfForeign e (λ f. KeepsCause f.closed.core.state f.closed.stop)) }
-        ensures foreign_device_size { IfErr result
-            (λ e. IfForeign e (λ f. (D.shown f.closed.device).size ≡ R.sectors)) }
+        ensures foreign { IfErr result (λ e. IfForeign e (λ f. IsMismatched L.does R.begins R.log
+            R.sector_bytes R.sectors R.parts (D.shown f.closed.device) (L.shown f.closed.log)
+            seats.items receipts.items f.closed)) }
+        ensures foreign_published { IfErr result (λ e. IfForeign e (λ f. PublishedFacts
+            R.sector_bytes f.closed.placed.items f.closed.stop f.closed.store_end f.released
+            f.published)) }
         ensures foreign_latest { IfErr result (λ e. IfForeign e (λ f. IsLatest R.sector_bytes
             (record {
               placed = f.closed.placed.items;
@@ -223,22 +147,6 @@ impl<D: BlockDev + Drop, L: BlockDev + Drop, R: Run + Names> Shared<D, L, R> {
               released = f.released;
               room = 0;
             }) f.published)) }
-        ensures foreign_released { IfErr result (λ e. IfForeign e (λ f. (cause : Cause)
-            → f.released ≡ Some cause → f.closed.stop ≡ Some cause)) }
-        ensures foreign_stop_cause { IfErr result
-            (λ e. IfForeign e (λ f. HasStopCause f.closed.stop f.closed.store_end)) }
-        ensures foreign_causes { IfErr result (λ e. IfForeign e (λ f.
-            HasEndCause L.does R.log (L.shown f.closed.log).faults f.closed.store_end)) }
-        ensures foreign_hazard { IfErr result (λ e. IfForeign e (λ f. f.closed.hazard ≡ None)) }
-        ensures foreign_taken { IfErr result (λ e. IfForeign e (λ f.
-            f.closed.taken ≡ f.closed.core.state.taken)) }
-        ensures foreign_published { IfErr result
-            (λ e. IfForeign e (λ f. ArePublished R.sector_bytes f.closed.placed.items f.published)) }
-        ensures foreign_ends { IfErr result
-            (λ e. IfForeign e (λ f. Each (StatusHasCause f.closed.store_end f.released) f.published)) }
-        ensures foreign_counts { IfErr result (λ e. IfForeign e (λ f.
-            length seats.items ≡ R.parts → 0 < R.parts
-            → seat_count f.closed.by.items ≡ recorded_count seats.items)) }
         ensures foreign_back { IfErr result (λ e. IfForeign e (λ f.
             (f.seats.items ≡ seats.items) × (f.writer ≡ writer)
             × (f.receipts.items ≡ receipts.items))) }
@@ -417,32 +325,17 @@ fn finish<D: BlockDev + Drop, L: BlockDev + Drop, R: Run>(
         × (result.stop ≡ queue.stop) }
     ensures drained { queue.stop ≡ None → log.end ≡ None
         → StopsWithLog result.stop result.store_end }
-    ensures stop_cause { HasStopCause queue.stop log.end
-        → HasStopCause result.stop result.store_end }
     ensures full { queue.stop ≡ None → log.end ≡ None → result.store_end ≡ Some Full
         → HasNoRoom R.sector_bytes R.log.size result.core.state result.placed.items }
-    ensures causes { HasEndCause L.does R.log (L.shown result.log).faults result.store_end }
     ensures same { (result.core.state.events ≡ queue.core.events) × (result.by.items ≡ queue.by) }
-    ensures crash { (L.shown result.log).lies ≡ 0 → (left : Content)
-        → (L.shown result.log).crash left →
+    ensures parts { HasStopCause queue.stop log.end
+        → AreClosedParts L.does R.begins R.log R.sector_bytes R.sectors (D.shown result.device)
+        (L.shown result.log) receipts.old.items result }
+    ensures crash { HasStopCause queue.stop log.end → (L.shown result.log).lies ≡ 0
+        → (left : Content) → (L.shown result.log).crash left →
         LeavesLog R.sector_bytes
         (L.shown result.log).size result.settled result.core.state result.end left }
-    ensures since { (L.shown result.log).lies ≡ 0 → LeavesSince
-        R.begins R.sector_bytes (L.shown result.log) (entries_in result.placed.items) }
     ensures receipts { receipts.new.items ≡ receipts.old.items }
-    ensures told { (L.shown result.log).lies ≡ 0 → Each (KeepsReceipt R.sector_bytes
-        (L.shown result.log) (entries_in result.placed.items)) receipts.old.items }
-    ensures ground { KeepsGround R.log (L.shown result.log) }
-    ensures status { result.status
-        ≡ status_of R.sector_bytes (entries_in result.placed.items) result.end }
-    ensures holds { (D.shown result.device).lies ≡ 0
-        → Holds (D.shown result.device).content result.done.items }
-    ensures end { result.end ≡ first_cause result.stop result.store_end }
-    ensures size { result.core.state.sector_bytes ≡ R.sector_bytes }
-    ensures stop { KeepsCause result.core.state result.stop }
-    ensures device_size { (D.shown result.device).size ≡ R.sectors }
-    ensures hazard { result.hazard ≡ None }
-    ensures taken { result.taken ≡ result.core.state.taken }
 {
     let mut queue = queue;
     let mut log = log;
@@ -468,30 +361,12 @@ fn take_apart<D: BlockDev + Drop, L: BlockDev + Drop, R: Run>(
         ≡ queue }
     ensures placed { (result.placed.items ≡ log.placed) × (result.settled ≡ log.settled) }
     ensures store_end { result.store_end ≡ log.end }
-    ensures causes { HasEndCause L.does R.log (L.shown result.log).faults result.store_end }
     ensures calls { result.done.items ≡ device.calls }
-    ensures legal { LegalHistory R.sector_bytes R.sectors result.core.state.events result.by.items
-        [] }
-    ensures leaves { (L.shown result.log).lies ≡ 0 → (left : Content)
-        → (L.shown result.log).crash left →
-        LeavesPrefix R.sector_bytes (L.shown result.log).size result.settled
-        (entries_in result.placed.items) left }
-    ensures since { (L.shown result.log).lies ≡ 0 → LeavesSince
-        R.begins R.sector_bytes (L.shown result.log) (entries_in result.placed.items) }
+    ensures parts { has_no_close result.core.state.events ≡ false
+        → HasStopCause result.stop result.store_end
+        → AreClosedParts L.does R.begins R.log R.sector_bytes R.sectors (D.shown result.device)
+        (L.shown result.log) receipts.old.items result }
     ensures receipts { receipts.new.items ≡ receipts.old.items }
-    ensures told { (L.shown result.log).lies ≡ 0 → Each (KeepsReceipt R.sector_bytes
-        (L.shown result.log) (entries_in result.placed.items)) receipts.old.items }
-    ensures ground { KeepsGround R.log (L.shown result.log) }
-    ensures status { result.status
-        ≡ status_of R.sector_bytes (entries_in result.placed.items) result.end }
-    ensures holds { (D.shown result.device).lies ≡ 0
-        → Holds (D.shown result.device).content result.done.items }
-    ensures end { result.end ≡ first_cause result.stop result.store_end }
-    ensures size { result.core.state.sector_bytes ≡ R.sector_bytes }
-    ensures stop { KeepsCause result.core.state result.stop }
-    ensures device_size { (D.shown result.device).size ≡ R.sectors }
-    ensures hazard { result.hazard ≡ None }
-    ensures taken { result.taken ≡ result.core.state.taken }
 {
     let taken = queue.taken_count() as u64;
     let queue = queue.into_parts();

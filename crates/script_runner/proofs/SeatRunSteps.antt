@@ -7,11 +7,11 @@ use Rattle.bio.specs.declared.outcome.Status.{Status}
 use Rattle.bio.specs.declared.request.SectorSize.{SectorSize}
 use Rattle.bio.specs.declared.request.SectorSize.TheVariants as sizes
 use Rattle.bio.specs.Requests.{bytes_of}
-use Rattle.blockdev.specs.View.{Origin}
+use Rattle.blockdev.specs.View.{Origin, View}
 use Rattle.dmlw_script.specs.Plans.{top_of, Disk}
 use Rattle.dmlw_script.specs.RunPlans.{RunPlan}
 use Rattle.layer_table.specs.declared.stack.Stack.{Stack}
-use Rattle.layer_table.specs.Layers.{disk_of, stack_shown, top_origin}
+use Rattle.layer_table.specs.Layers.{disk_of, stack_does, stack_shown, top_origin}
 use Rattle.layer_table.specs.StackLaws.{part_of_disk}
 use Rattle.lock_state.specs.Comparison.{Receipt}
 use Rattle.lock_state.specs.History.{Part}
@@ -34,11 +34,11 @@ use Rattle.bio.specs.ContentLaws.{length-gather, sector_of-gather}
 use Rattle.script_runner.specs.declared.tally.Tally.{Tally}
 use Rattle.script_runner.specs.inside.{AreNewPlayers, FitsRecorder, HavePlayed, IsUnplayed, PlayerView}
 use Rattle.script_runner.specs.inside.{new_player}
-use Rattle.script_runner.specs.SeatRuns.{FailsRun, HasRun, HaveRun, ClosesRecorder, IsForeignClose}
-use Rattle.script_runner.specs.SeatRuns.{IsOpenRun, RunsSeats, IsUnclosed, busy, foreign, joined}
-use Rattle.script_runner.specs.SeatRuns.{memory, thread}
+use Rattle.script_runner.specs.SeatRuns.{FailsRun, HasRun, HaveRun, IsForeignClose, IsOpenRun}
+use Rattle.script_runner.specs.SeatRuns.{IsUnaskedRun, IsUnclosed, RunsSeats, begins_of, busy, foreign}
+use Rattle.script_runner.specs.SeatRuns.{joined, memory, thread, unasked}
 use Rattle.script_runner.proofs.Seats.{take_next}
-use Rattle.shared.specs.Close.{LeavesLog}
+use Rattle.shared.specs.Close.{AreClosedParts, HasOpenRequest, IsClosed, IsMismatched, LeavesLog}
 use Rattle.shared.specs.declared.closing.Closed.{Closed}
 
 module _ {A : Type 0} where
@@ -230,15 +230,115 @@ each_ran plan players seats tallies played parts told number seat there =
           rw found.2 at (played.each number player found.1);
     }
 
-pub is_run : (ground : Ground) (bytes sectors : ℕ) (plan : RunPlan) (log : Stack)
-    (players : List PlayerView) (seats : List Part) (tallies : List Tally) (receipts : List Receipt)
-    (closed : Closed Stack Stack) (status : Status) (lies : Lies) (image : List ℕ)
-    → FitsRecorder bytes sectors plan → ground ≡ ground_of (stack_shown log)
-    → bytes_of plan.log_size / 512 ≤ top_of plan.log_disk → IsStackOf plan.log_disk log
+-- What `run_on` gives a recorder of `plan`, whose log is made on the stack `log`.
+pub record SuitsRun (begins : ℕ → Type 0) (ground : Ground) (bytes sectors many : ℕ)
+    (plan : RunPlan) (log : Stack) : Type 0 where
+  pub fits : FitsRecorder bytes sectors plan
+  pub begun : (reading : ℕ) → begins reading → begins_of bytes log reading
+  pub on : ground ≡ ground_of (stack_shown log)
+  pub seats : plan.seats ≡ many
+  pub blank : IsStackOf plan.log_disk log
+
+-- The parts of a closed recorder, where the log began at a reading that may be any of `others`.
+parts_begun : (begins others : ℕ → Type 0) (ground : Ground) (bytes sectors : ℕ)
+    (device_view log_view : View) (receipts : List Receipt) (closed : Closed Stack Stack)
+    → ((reading : ℕ) → begins reading → others reading)
+    → AreClosedParts stack_does begins ground bytes sectors device_view log_view receipts closed
+    → AreClosedParts stack_does others ground bytes sectors device_view log_view receipts closed
+parts_begun begins others ground bytes sectors device_view log_view receipts closed more parts =
+    record {
+      shut = parts.shut;
+      legal = parts.legal;
+      sector_size = parts.sector_size;
+      taken = parts.taken;
+      hazard = parts.hazard;
+      status = parts.status;
+      keeps_ground = parts.keeps_ground;
+      end = parts.end;
+      stop = parts.stop;
+      stop_cause = parts.stop_cause;
+      causes = parts.causes;
+      device_size = parts.device_size;
+      holds = parts.holds;
+      crash = parts.crash;
+      any_moment = λ lies.
+          let since = parts.any_moment lies in record {
+            reading = since.reading;
+            one = more since.reading since.one;
+            past = since.past;
+            leaves = since.leaves;
+          };
+      told = parts.told;
+    }
+
+-- The close of a recorder of `plan`, in the terms of the plan.
+closes_run : (begins : ℕ → Type 0) (ground : Ground) (bytes sectors many : ℕ) (plan : RunPlan)
+    (log : Stack) (device_view log_view : View) (seats : List Part)
+    (receipts all : List Receipt) (closed : Closed Stack Stack)
+    → SuitsRun begins ground bytes sectors many plan log → receipts ≡ all
+    → IsClosed stack_does begins ground bytes sectors many device_view log_view seats receipts closed
+    → IsClosed stack_does (begins_of (bytes_of plan.log_size) log) (ground_of (stack_shown log))
+    (bytes_of plan.log_size) (top_of plan.data_disk) plan.seats device_view log_view seats all closed
+closes_run begins ground bytes sectors many plan log device_view log_view seats receipts all closed
+    suits kept close =
+    subst (λ (x : (ℕ × ℕ) × ((ℕ × Ground) × List Receipt)). IsClosed stack_does (begins_of x.0.0 log)
+    x.1.0.1 x.0.0 x.0.1 x.1.0.0 device_view log_view seats x.1.1 closed)
+    (λ i. (
+      (sym suits.fits.log_size i, sym suits.fits.data_size i),
+      ((sym suits.seats i, suits.on i), kept i),
+    ))
+    (record {
+      parts = parts_begun _ _ _ _ _ _ _ _ _ suits.begun close.parts;
+      legal = close.legal;
+      counts = close.counts;
+      agrees = close.agrees;
+      receives = close.receives;
+      log = close.log;
+      crash = close.crash;
+      any_moment = λ lies.
+          let since = close.any_moment lies in record {
+            begun = since.begun;
+            one = suits.begun since.begun since.one;
+            past = since.past;
+            leaves = since.leaves;
+          };
+      told = close.told;
+    })
+
+-- The same of a close that is refused as `Foreign`.
+foreign_close : (begins : ℕ → Type 0) (ground : Ground) (bytes sectors many : ℕ) (plan : RunPlan)
+    (log : Stack) (seats : List Part) (receipts all : List Receipt)
+    → SuitsRun begins ground bytes sectors many plan log → receipts ≡ all
+    → IsForeignClose begins ground bytes sectors many seats receipts
+    → IsForeignClose (begins_of (bytes_of plan.log_size) log) (ground_of (stack_shown log))
+    (bytes_of plan.log_size) (top_of plan.data_disk) plan.seats seats all
+foreign_close begins ground bytes sectors many plan log seats receipts all suits kept is =
+    subst (λ (x : (ℕ × ℕ) × ((ℕ × Ground) × List Receipt)). IsForeignClose (begins_of x.0.0 log)
+    x.1.0.1 x.0.0 x.0.1 x.1.0.0 seats x.1.1)
+    (λ i. (
+      (sym suits.fits.log_size i, sym suits.fits.data_size i),
+      ((sym suits.seats i, suits.on i), kept i),
+    ))
+    (record {
+      closed = is.closed;
+      mismatch = record {
+        parts = parts_begun _ _ _ _ _ _ _ _ _ suits.begun is.mismatch.parts;
+        counts = is.mismatch.counts;
+        differs = is.mismatch.differs;
+      };
+    })
+
+pub is_run : (begins : ℕ → Type 0) (ground : Ground) (bytes sectors many : ℕ) (plan : RunPlan)
+    (log : Stack) (players : List PlayerView) (seats : List Part) (tallies : List Tally)
+    (receipts : List Receipt) (closed : Closed Stack Stack) (status : Status) (lies : Lies)
+    (image : List ℕ)
+    → SuitsRun begins ground bytes sectors many plan log → 0 < plan.seats
+    → bytes_of plan.log_size / 512 ≤ top_of plan.log_disk
     → HavePlayed plan.calls plan.seats players
     → seats ≡ map (λ (p : PlayerView). p.part) players → tallies ≡ map (λ (p : PlayerView). p.tally) players
     → receipts ≡ joined (map (λ (p : PlayerView). p.receipts) players)
-    → ClosesRecorder ground bytes sectors seats receipts closed
+    → IsClosed stack_does begins ground bytes sectors many (stack_shown closed.device)
+    (stack_shown closed.log) seats receipts closed
     → status ≡ closed.status
     → lies ≡ record {
       data_disk = (stack_shown closed.device).lies;
@@ -246,20 +346,14 @@ pub is_run : (ground : Ground) (bytes sectors : ℕ) (plan : RunPlan) (log : Sta
     }
     → image ≡ gather (shown_of (disk_of closed.log)).content 0 (shown_of (disk_of closed.log)).size
     → RunsSeats plan tallies status lies image
-is_run ground bytes sectors plan log players seats tallies receipts closed status lies image fits on
-    room blank played parts told kept close so lied left =
-    let here : ClosesRecorder (ground_of (stack_shown log)) (bytes_of plan.log_size)
-    (top_of plan.data_disk) seats (joined (map (λ (p : PlayerView). p.receipts) players)) closed =
-    subst (λ (rs : List Receipt). ClosesRecorder (ground_of (stack_shown log)) (bytes_of plan.log_size)
-    (top_of plan.data_disk) seats rs closed) kept
-    (subst (λ (g : Ground). ClosesRecorder g (bytes_of plan.log_size)
-    (top_of plan.data_disk) seats receipts closed) on
-    (subst (λ (n : ℕ). ClosesRecorder ground n (top_of plan.data_disk) seats receipts closed)
-    (sym fits.log_size)
-    (subst (λ (n : ℕ). ClosesRecorder ground bytes n seats receipts closed)
-    (sym fits.data_size) close))) in
+is_run begins ground bytes sectors many plan log players seats tallies receipts closed status lies
+    image suits some room played parts told kept close so lied left =
+    let here =
+    closes_run begins ground bytes sectors many plan log (stack_shown closed.device)
+    (stack_shown closed.log) seats receipts (joined (map (λ (p : PlayerView). p.receipts) players))
+    closed suits kept close in
     let is : IsLogStack plan log closed.log image =
-    record { room = room; blank = blank; stands = here.keeps_ground; bytes = left } in
+    record { room = room; blank = suits.blank; stands = here.parts.keeps_ground; bytes = left } in
     let none : lies.log_disk ≡ (stack_shown closed.log).lies = grind (arith, lied) in
     record {
       seats = seats;
@@ -267,10 +361,11 @@ is_run ground bytes sectors plan log players seats tallies receipts closed statu
       tallied =
           ap length told ∙ map_long (λ (p : PlayerView). p.tally) players
           ∙ played.count;
+      some = some;
       given = map (λ (p : PlayerView). p.receipts) players;
       ran = each_ran plan players seats tallies played parts told;
       log = log;
-      blank = blank;
+      blank = suits.blank;
       closed = closed;
       close = here;
       told = so;
@@ -282,7 +377,8 @@ is_run ground bytes sectors plan log players seats tallies receipts closed statu
           image_long (disk_of closed.log) image plan.log_disk.sectors left
           (disk_size plan log closed.log image is);
       logged =
-          λ zero. grind (arith, leaves_image, zero);
+          λ zero. leaves_image plan log closed.log image closed.settled closed.core.state closed.end
+          is (here.crash (sym none ∙ zero));
     }
 
 have_run : (plan : RunPlan) (players : List PlayerView) (seats : List Part) (tallies : List Tally)
@@ -295,17 +391,31 @@ have_run plan players seats tallies played parts told = record {
   ran = each_ran plan players seats tallies played parts told;
 }
 
-open_run : (plan : RunPlan) (players : List PlayerView) → HavePlayed plan.calls plan.seats players
-    → IsOpenRun plan
-open_run plan players played = record {
+open_run : (bytes sectors : ℕ) (plan : RunPlan) (players : List PlayerView)
+    → FitsRecorder bytes sectors plan → HavePlayed plan.calls plan.seats players
+    → HasOpenRequest bytes sectors → IsOpenRun plan
+open_run bytes sectors plan players fits played found = record {
+  seats = map (λ (p : PlayerView). p.part) players;
+  given = map (λ (p : PlayerView). p.receipts) players;
+  made = have_run plan players _ (map (λ (p : PlayerView). p.tally) players) played refl refl;
+  found =
+      subst (λ (x : ℕ × ℕ). HasOpenRequest x.0 x.1)
+      (λ i. (sym fits.log_size i, sym fits.data_size i)) found;
+}
+
+unasked_run : (plan : RunPlan) (players : List PlayerView) → HavePlayed plan.calls plan.seats players
+    → IsUnaskedRun plan
+unasked_run plan players played = record {
   seats = map (λ (p : PlayerView). p.part) players;
   given = map (λ (p : PlayerView). p.receipts) players;
   made = have_run plan players _ (map (λ (p : PlayerView). p.tally) players) played refl refl;
 }
 
-pub fails_unplayed : (plan : RunPlan) (refusal : Refusal) (fault : RunError)
-    → IsUnplayed plan.calls plan.seats refusal → fault ≡ refused_by refusal → FailsRun plan fault
-fails_unplayed plan refusal fault why same =
+pub fails_unplayed : (bytes sectors : ℕ) (plan : RunPlan) (refusal : Refusal) (fault : RunError)
+    → FitsRecorder bytes sectors plan
+    → IsUnplayed bytes sectors plan.calls plan.seats refusal → fault ≡ refused_by refusal
+    → FailsRun plan fault
+fails_unplayed bytes sectors plan refusal fault fits why same =
     subst (FailsRun plan) (sym same) (⊎_elim
     (λ (is : refusal ≡ refusals.Memory). subst (λ (r : Refusal). FailsRun plan (refused_by r))
     (sym is) memory)
@@ -313,26 +423,33 @@ fails_unplayed plan refusal fault why same =
     (λ (is : refusal ≡ refusals.NoThread). subst (λ (r : Refusal). FailsRun plan (refused_by r))
     (sym is) thread)
     (λ held. subst (λ (r : Refusal). FailsRun plan (refused_by r)) (sym held.0)
-    (busy (open_run plan held.1.0 held.1.1)))
+    (busy (open_run bytes sectors plan held.1.0.0 fits held.1.0.1 held.1.1)))
     other)
     why)
 
-pub fails_unclosed : (plan : RunPlan) (players : List PlayerView) (seats : List Part)
+pub fails_unclosed : (begins : ℕ → Type 0) (ground : Ground) (bytes sectors many : ℕ)
+    (plan : RunPlan) (log : Stack) (players : List PlayerView) (seats : List Part)
     (tallies : List Tally) (receipts : List Receipt) (refusal : Refusal) (fault : RunError)
+    → SuitsRun begins ground bytes sectors many plan log
     → HavePlayed plan.calls plan.seats players → seats ≡ map (λ (p : PlayerView). p.part) players
     → tallies ≡ map (λ (p : PlayerView). p.tally) players
     → receipts ≡ joined (map (λ (p : PlayerView). p.receipts) players)
-    → IsUnclosed seats receipts refusal → fault ≡ refused_by refusal → FailsRun plan fault
-fails_unclosed plan players seats tallies receipts refusal fault played parts told kept why same =
+    → IsUnclosed begins ground bytes sectors many seats receipts refusal
+    → fault ≡ refused_by refusal → FailsRun plan fault
+fails_unclosed begins ground bytes sectors many plan log players seats tallies receipts refusal
+    fault suits played parts told kept why same =
     subst (FailsRun plan) (sym same) (⊎_elim
     (λ (is : refusal ≡ refusals.Busy). subst (λ (r : Refusal). FailsRun plan (refused_by r))
-    (sym is) (busy (open_run plan players played)))
-    (λ (is : (refusal ≡ refusals.Foreign) × IsForeignClose seats receipts). subst
+    (sym is) (unasked (unasked_run plan players played)))
+    (λ (is : (refusal ≡ refusals.Foreign)
+    × IsForeignClose begins ground bytes sectors many seats receipts). subst
     (λ (r : Refusal). FailsRun plan (refused_by r)) (sym is.0) (foreign (record {
       seats = seats;
       given = map (λ (p : PlayerView). p.receipts) players;
       made = have_run plan players seats tallies played parts told;
-      close = subst (IsForeignClose seats) kept is.1;
+      log = log;
+      blank = suits.blank;
+      close = foreign_close begins ground bytes sectors many plan log seats receipts _ suits kept is.1;
     })))
     why)
 

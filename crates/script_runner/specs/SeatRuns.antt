@@ -10,23 +10,19 @@ use Rattle.refusals.specs.declared.run_error.End.TheVariants as ends
 use Rattle.refusals.specs.declared.run_error.RunError.{RunError}
 use Rattle.refusals.specs.declared.run_error.RunError.TheVariants.{LoggingEnded}
 use Rattle.refusals.specs.Errors.{refused_by}
-use Rattle.bio.specs.Content.{Content, gather}
+use Rattle.bio.specs.Content.{gather}
 use Rattle.bio.specs.declared.outcome.Status.{Status}
-use Rattle.bio.specs.Events.{has_no_close}
 use Rattle.bio.specs.Requests.{bytes_of}
 use Rattle.sector_disk.specs.DiskView.{shown_of}
 use Rattle.layer_table.specs.declared.stack.Stack.{Stack}
 use Rattle.layer_table.specs.Layers.{disk_of, some_drops, stack_does, stack_shown}
-use Rattle.log_format.specs.LogOf.{status_of}
 use Rattle.log_store.specs.Calls.{HasFaulted}
-use Rattle.lock_state.specs.Calls.{Holds}
-use Rattle.lock_state.specs.Comparison.{Each, LegalHistory, Receipt}
-use Rattle.lock_state.specs.FirstStop.{HasStopCause}
-use Rattle.lock_state.specs.History.{KeepsCause, Part, first_cause, seat_count, new_part, one_if}
-use Rattle.lock_state.specs.History.{recorded_count}
-use Rattle.lock_state.specs.PlacedItems.{Ground, HasEndCause, KeepsGround, entries_in, ground_of}
+use Rattle.lock_state.specs.Comparison.{Receipt}
+use Rattle.lock_state.specs.History.{Part, new_part, one_if}
+use Rattle.lock_state.specs.PlacedItems.{Ground, ground_of}
 use Rattle.shared.specs.SeatCalls.{Answered, AddsMark}
-use Rattle.shared.specs.Close.{Agrees, Differs, IsReceipt, LeavesLog}
+use Rattle.shared.specs.Close.{HasOpenRequest, IsClosed, IsMismatched, LeavesLog}
+use Rattle.shared.specs.PlainCrash.{IsCreated}
 use Rattle.shared.specs.declared.answer.Answer.{Answer}
 use Rattle.shared.specs.declared.answer.Answer.TheVariants as answers
 use Rattle.shared.specs.declared.answer.MarkAnswer.{MarkAnswer}
@@ -190,51 +186,16 @@ pub record IsSeatRun (lines : List SeatCall) (number : ℕ) (seat : Part) (tally
 pub record HasRun (lines : List SeatCall) (tallies : List Tally) (given : List (List Receipt))
     (number : ℕ) (seat : Part) : Type 0 where
   pub tally : Tally
-  pub tally_with : slice_get tallies number ≡ Some tally
+  pub counted : slice_get tallies number ≡ Some tally
   pub receipts : List Receipt
   pub kept : slice_get given number ≡ Some receipts
   pub ran : IsSeatRun lines number seat tally receipts
 
--- A recorder was closed with these seats and receipts, and the close returned `closed`. The
--- recorded device has `sectors` sectors. The log's device had the properties `ground` before the
--- log was made, and the log's sectors have `bytes` bytes.
-pub record ClosesRecorder (ground : Ground) (bytes sectors : ℕ) (seats : List Part)
-    (receipts : List Receipt) (closed : Closed Stack Stack) : Type 0 where
-  -- the events and the seats' own lists are one legal history
-  pub legal : LegalHistory bytes sectors closed.core.state.events closed.by.items seats
-  pub shut : has_no_close closed.core.state.events ≡ false
-  pub counts : seat_count closed.by.items ≡ recorded_count seats
-  pub agrees : Agrees (record {
-    core = closed.core.state;
-    by = closed.by.items;
-    stop = closed.stop;
-  }) closed.placed.items closed.settled closed.store_end
-      closed.done.items seats receipts
-  pub receives : Each (IsReceipt closed.core.state closed.settled) receipts
-  -- the status is that of the placed entries. Unless the log's device lied, its content has a log:
-  -- a prefix of the history's completion list. So has each content that a crash may leave
-  pub status : closed.status ≡ status_of bytes (entries_in closed.placed.items) closed.end
-  pub log : (stack_shown closed.log).lies ≡ 0 →
-      LeavesLog bytes (stack_shown closed.log).size closed.settled closed.core.state closed.end
-      (stack_shown closed.log).content
-  pub crash : (stack_shown closed.log).lies ≡ 0 → (left : Content)
-      → (stack_shown closed.log).crash left →
-      LeavesLog bytes (stack_shown closed.log).size closed.settled closed.core.state closed.end left
-  -- the log's device has the size and the place that it had at first
-  pub keeps_ground : KeepsGround ground (stack_shown closed.log)
-  -- logging ended by the cause of the first Stop, if there is one; otherwise by the store's end.
-  -- The Stop is one of the events, or came after the Close. Its cause is Memory, or why the store
-  -- ended
-  pub end : closed.end ≡ first_cause closed.stop closed.store_end
-  pub stop : KeepsCause closed.core.state closed.stop
-  pub stop_cause : HasStopCause closed.stop closed.store_end
-  pub causes : HasEndCause stack_does ground (stack_shown closed.log).faults closed.store_end
-  -- the log's sectors have `bytes` bytes, and the recorded device has `sectors` sectors
-  pub sector_size : closed.core.state.sector_bytes ≡ bytes
-  pub device_size : (stack_shown closed.device).size ≡ sectors
-  -- unless the recorded device lied, its content is what was written to it
-  pub holds : (stack_shown closed.device).lies ≡ 0
-      → Holds (stack_shown closed.device).content closed.done.items
+-- The clock of the log's device may have the reading `reading` when a log with sectors of `bytes`
+-- bytes has just been created on the stack `log`. The log of a run begins at such a reading.
+abbrev pub begins_of : ℕ → Stack → ℕ → Type 0
+begins_of bytes log reading =
+    (made : Stack) × IsCreated stack_does bytes log made × (reading ≡ (stack_shown made).clock)
 
 -- `plan` ran: each of its seats made its calls, and then the recorder was closed. `tallies` has the
 -- tally of each seat, in their order. `status` is the log's status, `lies` counts the lies of the
@@ -244,6 +205,7 @@ pub record RunsSeats (plan : RunPlan) (tallies : List Tally) (status : Status) (
   -- each seat of the script made the calls of its lines in order
   pub seats : List Part
   pub count : length seats ≡ plan.seats
+  pub some : 0 < plan.seats
   pub tallied : length tallies ≡ plan.seats
   -- the receipts of each seat
   pub given : List (List Receipt)
@@ -252,10 +214,12 @@ pub record RunsSeats (plan : RunPlan) (tallies : List Tally) (status : Status) (
   -- the recorder's log was made on a stack as the script's log disk asks
   pub log : Stack
   pub blank : IsStackOf plan.log_disk log
-  -- the recorder was closed with all seats, and with all receipts that the seats got
+  -- the recorder was closed with all seats, and with all receipts that the seats got. Its log began
+  -- when it had just been created
   pub closed : Closed Stack Stack
-  pub close : ClosesRecorder (ground_of (stack_shown log)) (bytes_of plan.log_size)
-      (top_of plan.data_disk) seats (joined given) closed
+  pub close : IsClosed stack_does (begins_of (bytes_of plan.log_size) log)
+      (ground_of (stack_shown log)) (bytes_of plan.log_size) (top_of plan.data_disk) plan.seats
+      (stack_shown closed.device) (stack_shown closed.log) seats (joined given) closed
   pub told : status ≡ closed.status
   pub lied : lies ≡ record {
     data_disk = (stack_shown closed.device).lies;
@@ -276,20 +240,21 @@ pub record RunsSeats (plan : RunPlan) (tallies : List Tally) (status : Status) (
       (seen_on plan.log_disk image)
 
 -- One comparison fails: these seats or receipts don't agree with what the recorder's locks guarded.
-pub record IsForeignClose (seats : List Part) (receipts : List Receipt) : Type 0 where
+-- The other parameters are those of `IsMismatched`.
+pub record IsForeignClose (begins : ℕ → Type 0) (ground : Ground) (bytes sectors many : ℕ)
+    (seats : List Part) (receipts : List Receipt) : Type 0 where
   pub closed : Closed Stack Stack
-  pub differs : Differs (record {
-    core = closed.core.state;
-    by = closed.by.items;
-    stop = closed.stop;
-  }) closed.placed.items closed.settled closed.store_end
-      closed.done.items seats receipts
+  pub mismatch : IsMismatched stack_does begins ground bytes sectors many
+      (stack_shown closed.device) (stack_shown closed.log) seats receipts closed
 
--- Why a close with these seats and receipts is refused: a request is open, or a seat or receipt
--- doesn't agree with what the recorder's locks guarded.
-abbrev pub IsUnclosed : List Part → List Receipt → Refusal → Type 0
-IsUnclosed seats receipts refusal =
-    (refusal ≡ refusals.Busy) ⊎ ((refusal ≡ refusals.Foreign) × IsForeignClose seats receipts)
+-- Why a close with these seats and receipts is refused: it says that the recorder wasn't asked to
+-- close, or a seat or receipt doesn't agree with what the recorder's locks guarded.
+abbrev pub IsUnclosed : (ℕ → Type 0) → Ground → ℕ → ℕ → ℕ → List Part → List Receipt → Refusal
+    → Type 0
+IsUnclosed begins ground bytes sectors many seats receipts refusal =
+    (refusal ≡ refusals.Busy)
+    ⊎ ((refusal ≡ refusals.Foreign)
+    × IsForeignClose begins ground bytes sectors many seats receipts)
 
 -- The seats of `plan` made their calls. These are the seats after them, and the receipts of each.
 pub record HaveRun (plan : RunPlan) (seats : List Part) (given : List (List Receipt)) : Type 0 where
@@ -304,11 +269,23 @@ pub record IsForeignRun (plan : RunPlan) : Type 0 where
   pub seats : List Part
   pub given : List (List Receipt)
   pub made : HaveRun plan seats given
-  pub close : IsForeignClose seats (joined given)
+  -- the recorder's log was made on a stack as the script's log disk asks
+  pub log : Stack
+  pub blank : IsStackOf plan.log_disk log
+  pub close : IsForeignClose (begins_of (bytes_of plan.log_size) log) (ground_of (stack_shown log))
+      (bytes_of plan.log_size) (top_of plan.data_disk) plan.seats seats (joined given)
 
--- The seats of `plan` made their calls, and then the recorder refused to be closed. No contract of
--- `shared` says what it found, since `ask_close` promises nothing of the events under its lock.
+-- The seats of `plan` made their calls, and then the recorder refused to close, because it found a
+-- request under its lock that hadn't ended.
 pub record IsOpenRun (plan : RunPlan) : Type 0 where
+  pub seats : List Part
+  pub given : List (List Receipt)
+  pub made : HaveRun plan seats given
+  pub found : HasOpenRequest (bytes_of plan.log_size) (top_of plan.data_disk)
+
+-- The seats of `plan` made their calls, and the recorder was asked to close, but its close says that
+-- it wasn't. No contract of `shared` says that a recorder stays closed between two calls.
+pub record IsUnaskedRun (plan : RunPlan) : Type 0 where
   pub seats : List Part
   pub given : List (List Receipt)
   pub made : HaveRun plan seats given
@@ -323,12 +300,13 @@ pub record IsUnmadeLog (plan : RunPlan) (end : End) : Type 0 where
   pub fits : end ≡ ends.Full → ⊥
 
 -- Why a run of `plan` fails. Memory ran out, the writer's thread can't be started, or the recorder
--- says that a request is open at the close. Or a seat or receipt doesn't agree with the recorder. Or
--- no log could be made. The fault names no line. `memory` and `thread` have no premise, because the
--- system may refuse memory and threads at any time.
+-- found a request open when it was asked to close. Or its close says that it wasn't asked, or a seat
+-- or receipt doesn't agree with it. Or no log could be made. The fault names no line. `memory` and
+-- `thread` have no premise, because the system may refuse memory and threads at any time.
 pub data FailsRun (plan : RunPlan) : RunError → Type 0 where
   memory : FailsRun plan (refused_by refusals.Memory)
   thread : FailsRun plan (refused_by refusals.NoThread)
   busy : IsOpenRun plan → FailsRun plan (refused_by refusals.Busy)
+  unasked : IsUnaskedRun plan → FailsRun plan (refused_by refusals.Busy)
   foreign : IsForeignRun plan → FailsRun plan (refused_by refusals.Foreign)
   unmade : (end : End) → IsUnmadeLog plan end → FailsRun plan (LoggingEnded end)

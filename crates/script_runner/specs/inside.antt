@@ -15,6 +15,7 @@ use Rattle.recorder.specs.declared.reply.Reply.{Reply}
 use Rattle.recorder.specs.declared.reply.Reply.TheVariants as replies
 use Rattle.lock_state.specs.Comparison.{Receipt}
 use Rattle.lock_state.specs.History.{Part, new_part}
+use Rattle.shared.specs.Close.{HasOpenRequest}
 use Rattle.dmlw_script.specs.declared.run_line.RunCall.{RunCall}
 use Rattle.dmlw_script.specs.declared.run_line.SeatCall.{SeatCall}
 use Rattle.dmlw_script.specs.Plans.{Disk, ScriptValue, top_of}
@@ -162,8 +163,9 @@ pub record HavePlayed (lines : List SeatCall) (many : ℕ) (players : List Playe
       → IsSeatRun lines number player.part player.tally player.receipts
 
 -- Why a run fails before the recorder is closed: memory ran out, the writer's thread can't be
--- started, or each seat made the calls of its lines and the recorder says that a request is open.
-abbrev pub IsUnplayed : List SeatCall → ℕ → Refusal → Type 0
-IsUnplayed lines many refusal =
+-- started, or each seat made the calls of its lines and the recorder finds that a request is open.
+abbrev pub IsUnplayed : ℕ → ℕ → List SeatCall → ℕ → Refusal → Type 0
+IsUnplayed bytes sectors lines many refusal =
     (refusal ≡ refusals.Memory) ⊎ ((refusal ≡ refusals.NoThread)
-    ⊎ ((refusal ≡ refusals.Busy) × ((players : List PlayerView) × HavePlayed lines many players)))
+    ⊎ ((refusal ≡ refusals.Busy) × (((players : List PlayerView) × HavePlayed lines many players)
+    × HasOpenRequest bytes sectors)))

@@ -1,8 +1,8 @@
 //! Runs a script of seats: makes the disks and the recorder, runs the seats, and closes the
 //! recorder.
-ghost use Rattle.std.specs.Prelude.{◌≡◌, ◌<◌, IfErr, IfOk, length, map};
+ghost use Rattle.std.specs.Prelude.{◌≡◌, ◌<◌, ℕ, IfErr, IfOk, map};
 ghost use Rattle.lock_state.specs.PlacedItems.{ground_of};
-ghost use Rattle.script_runner.specs.SeatRuns.{FailsRun, ClosesRecorder, RunsSeats, IsUnclosed, joined};
+ghost use Rattle.script_runner.specs.SeatRuns.{FailsRun, RunsSeats, IsUnclosed, begins_of, joined};
 ghost use Rattle.dmlw_script.specs.RunPlans.{IsRunPlan};
 ghost use Rattle.layer_table.specs.Layers.{disk_of, stack_does, stack_shown};
 ghost use Rattle.refusals.specs.declared.run_error.RunError.TheVariants.{LoggingEnded};
@@ -10,7 +10,7 @@ ghost use Rattle.script_runner.specs.DiskRun.{IsStackOf};
 ghost use Rattle.sector_disk.specs.DiskView.{shown_of};
 ghost use Rattle.bio.specs.Content.{gather};
 ghost use Rattle.script_runner.specs.inside.{AreNewPlayers, FitsRecorder};
-ghost use Rattle.shared.specs.Close.{AreNewSeats};
+ghost use Rattle.shared.specs.Close.{AreNewSeats, IsClosed};
 ghost use Rattle.shared.specs.PlainCrash.{IsCreated};
 ghost use Rattle.layer_table.specs.declared.stack.Stack.{Stack};
 
@@ -90,6 +90,7 @@ fn run_on<R: Run + Names + Send + Sync, H: Threads + Wait + Sync>(
     requires ground { R.log ≡ ground_of (stack_shown log) }
     requires begins { (made : Stack) → IsCreated stack_does R.sector_bytes log made
         → R.begins (stack_shown made).clock }
+    requires begun { (reading : ℕ) → R.begins reading → begins_of R.sector_bytes log reading }
     ensures ran { IfOk result (λ ran.
         RunsSeats script.now ran.tallies.items ran.status ran.lies
         (gather (shown_of ran.disk).content 0 (shown_of ran.disk).size)) }
@@ -204,10 +205,11 @@ fn close<R: Run + Names>(
     seats: Vec<Seat<R>>,
     receipts: Vec<Receipt<R>>,
 ) -> Result<Closed<Stack, Stack>, Refusal>
-    requires { (length seats.items ≡ R.parts) × (0 < R.parts) }
-    ensures closed { IfOk result
-        (ClosesRecorder R.log R.sector_bytes R.sectors seats.items receipts.items) }
-    ensures refused { IfErr result (IsUnclosed seats.items receipts.items) }
+    ensures closed { IfOk result (λ closed. IsClosed stack_does R.begins R.log R.sector_bytes
+        R.sectors R.parts (stack_shown closed.device) (stack_shown closed.log) seats.items
+        receipts.items closed) }
+    ensures refused { IfErr result (IsUnclosed R.begins R.log R.sector_bytes R.sectors R.parts
+        seats.items receipts.items) }
 {
     match recorder.close(seats, writer, receipts) {
         Ok(

@@ -3,6 +3,7 @@ ghost use Rattle.std.specs.Prelude.{◌≡◌, ◌⊎◌, IfErr, IfOk};
 ghost use Rattle.refusals.specs.declared.refusal.Refusal.TheVariants as refusals;
 ghost use Rattle.script_runner.specs.inside.{AreNewPlayers, DoesLines, FitsRecorder, HavePlayed};
 ghost use Rattle.script_runner.specs.inside.{IsUnplayed};
+ghost use Rattle.shared.specs.Close.{HasOpenRequest};
 
 use crate::seat_work::Work;
 use blockdev::BlockDev;
@@ -34,7 +35,8 @@ pub(crate) fn run_all<
     requires new { AreNewPlayers script.now.seats works.items }
     ensures played { IfOk result
         (λ works. HavePlayed script.now.calls script.now.seats works.items) }
-    ensures refused { IfErr result (IsUnplayed script.now.calls script.now.seats) }
+    ensures refused { IfErr result (IsUnplayed R.sector_bytes R.sectors
+        script.now.calls script.now.seats) }
 {
     thread::scope(
         thread::scope_env(),
@@ -45,7 +47,8 @@ pub(crate) fn run_all<
             ensures played { IfOk result
                 (λ works. HavePlayed script.entry.now.calls script.entry.now.seats works.items) }
             ensures refused { IfErr result
-                (IsUnplayed script.entry.now.calls script.entry.now.seats) }
+                (IsUnplayed R.sector_bytes R.sectors script.entry.now.calls
+                script.entry.now.seats) }
         {
             if scope
                 .spawn(move || recorder.write_loop(rt, writer))
@@ -91,7 +94,8 @@ fn ask_close<D: BlockDev + Drop, L: BlockDev + Drop, R: Run + Names, H: Wait>(
     rt: &H,
     recorder: &Shared<D, L, R>,
 ) -> Result<(), Refusal>
-    ensures { IfErr result (λ refusal. (refusal ≡ refusals.Memory) ⊎ (refusal ≡ refusals.Busy)) }
+    ensures { IfErr result (λ refusal. (refusal ≡ refusals.Memory)
+        ⊎ ((refusal ≡ refusals.Busy) × HasOpenRequest R.sector_bytes R.sectors)) }
 {
     if let Err(error) = recorder.ask_close(rt) {
         recorder.give_up(rt);

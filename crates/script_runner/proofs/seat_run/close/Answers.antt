@@ -15,7 +15,7 @@ returns-clause-refused g c =
       refl,
       record {
         closed = foreign.field-0-0.closed;
-        differs = of_foreign foreign.field-0 foreign.field-0-0 _ foreign.field-0-is
+        mismatch = of_foreign foreign.field-0 foreign.field-0-0 _ foreign.field-0-is
             foreign.ensures.foreign;
       },
     )

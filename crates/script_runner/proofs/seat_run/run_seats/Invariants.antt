@@ -1,10 +1,8 @@
-use Rattle.std.specs.Prelude.{◌≡◌}
 use Rattle.bio.specs.Requests.{bytes_of}
 use Rattle.dmlw_script.specs.Plans.{top_of}
-use Rattle.layer_table.specs.Layers.{stack_does, stack_shown}
-use Rattle.layer_table.specs.declared.stack.Stack.{Stack}
+use Rattle.layer_table.specs.Layers.{stack_shown}
 use Rattle.lock_state.specs.PlacedItems.{ground_of}
-use Rattle.shared.specs.PlainCrash.{IsCreated}
+use Rattle.script_runner.specs.SeatRuns.{begins_of}
 use Rattle.script_runner.proofs.seat_run.run_seats.Given as goal
 
 abbrev pub ghosts-run_on-R-Ledger : goal.ghosts-run_on-R-Ledger
@@ -18,9 +16,7 @@ ghosts-run_on-R-Run g a = record {
   sectors = top_of a.script.now.data_disk;
   sector_bytes = bytes_of a.script.now.log_size;
   log = ground_of (stack_shown a.log);
-  begins = λ reading.
-      (made : Stack) × IsCreated stack_does (bytes_of a.script.now.log_size) a.log made
-      × (reading ≡ (stack_shown made).clock);
+  begins = begins_of (bytes_of a.script.now.log_size) a.log;
   stops = a.unnamed.stops;
   ends = a.unnamed.ends;
   reads = a.unnamed.reads;

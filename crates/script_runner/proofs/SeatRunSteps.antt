@@ -38,7 +38,7 @@ use Rattle.script_runner.specs.SeatRuns.{FailsRun, HasRun, HaveRun, IsForeignClo
 use Rattle.script_runner.specs.SeatRuns.{IsUnaskedRun, IsUnclosed, RunsSeats, begins_of, busy, foreign}
 use Rattle.script_runner.specs.SeatRuns.{joined, memory, thread, unasked}
 use Rattle.script_runner.proofs.Seats.{take_next}
-use Rattle.shared.specs.Close.{AreClosedParts, HasOpenRequest, IsClosed, IsMismatched, LeavesLog}
+use Rattle.shared.specs.Close.{AreClosedParts, HasOpenRequest, IsClosed, LeavesLog}
 use Rattle.shared.specs.declared.closing.Closed.{Closed}
 
 module _ {A : Type 0} where

@@ -4,9 +4,10 @@
   bench/check.py [PROGRAM]      PROGRAM: the built program, else the one that ./dmlw runs
 
 It needs nothing but the checkout, Python 3 and that program; what needs a file system's tools is left out if these aren't installed, with a line that begins with `--`. It proves
-nothing: `.ci/run` does. Its parts are the commands of the pages (bench/examples.py), scripts on disks and of seats against a model (bench/force.py), damaged logs against the
-same model (bench/hostile.py), runs of threads (bench/stress.py), and the states of the sample's log by examples/each.sh. Each prints a line. A command, a script, a damaged
-log, a run or a state is one trial, and the last line counts them: `N passed, N failed`. Ends with status 1 if one failed.
+nothing: `.ci/run` does. Its parts are the commands of the pages (bench/examples.py), sessions of clients of `serve`, byte for byte (bench/sessions.py), scripts on disks and of
+seats against a model (bench/force.py), damaged logs against the same model (bench/hostile.py), runs of threads (bench/stress.py), and the states of the sample's log by
+examples/each.sh. Each prints a line. A command, a session, a script, a damaged log, a run or a state is one trial, and the last line counts them: `N passed, N failed`. Ends with
+status 1 if one failed.
 """
 import lzma, os, re, shutil, subprocess, sys, tempfile, time
 
@@ -45,6 +46,13 @@ class Check:
         tried, failed = sum(it[0] for it in found), sum(min(it) for it in found)
         self.count(name, tried, failed, status, told)
 
+    def sessions(self):
+        """The sessions of bench/sessions.t."""
+        status, told = self.run(sys.executable, f"{ROOT}/bench/sessions.py", self.program)
+        found = re.findall(r"^(\d+) passed, (\d+) failed$", told, re.M)
+        passed, failed = map(int, found[-1]) if found else (0, 0)
+        self.count("sessions of serve", passed + failed, failed, status, told)
+
     def sample(self):
         """The sample's states from the end of mkfs on; without e2fsck each is only made, and looked at for its size."""
         check = [f"{ROOT}/examples/check-ext4.sh"] if shutil.which("e2fsck", path=PATH) else ["test", "-s"]
@@ -68,6 +76,7 @@ def main():
     print(f"the program is {check.program}", flush=True)
     differences = r"^([\d,]+) (?:scripts|images) .*?, ([\d,]+) differences$"
     check.part("commands of the pages", "examples.py", [check.program], r"^([\d,]+) commands, .*?, (\d+) differ$")
+    check.sessions()
     check.part("scripts", "force.py", [str(SCRIPTS)], differences)
     check.part("scripts of seats", "force.py", ["--seats", str(SEATS)], differences)
     check.part("damaged logs", "hostile.py", [str(IMAGES), "1", check.program], differences)

@@ -504,6 +504,25 @@ If a part of a long write fails, the later parts aren't done or logged, and the 
   1 @2050 write 2048+2048
   2 @4099 mark dm-log-writes-end
 
+If a part of a long trim with FUA fails, neither the later parts nor a flush follow.
+  $ head
+  > data 6144
+  > log 8192
+  > data-layer 0 6144 fuse disk 0 1
+  $ dmlw serve head first log
+  > BY-NAME
+  GREETING 0000000000300000 002d
+  > REQUEST 0001 0004 0000000000000001 0000000000000000 00300000
+  REPLY 00000005 0000000000000001
+  > LEAVE
+  ! 3 3
+  ! requests: 0 reads, 0 writes, 0 flushes, 1 trims; 1 with FUA, 1 split
+  $ dmlw list log
+  super version 1 entries 3 sectorsize 512
+  0 @1 discard 0+2048
+  1 @2 discard 2048+2048
+  2 @3 mark dm-log-writes-end
+
 
 ---- errors ----
 
@@ -789,6 +808,50 @@ Under `drop_writes` a layer answers well what it doesn't do. That isn't in the l
   $ show out
   32768 bytes
   3: 41*512
+
+A layer that delays each call by an hour delays no answer, since nothing waits for the call's end.
+  $ head
+  > data 64
+  > log 256
+  > data-layer 0 64 delay disk 0 3600000
+  $ dmlw serve head first log
+  > HELLO
+  BEGUN GOES-ON
+  > REQUEST 0001 0001 0000000000000001 0000000000000600 00000200 41*512
+  REPLY 00000000 0000000000000001
+  > REQUEST 0000 0000 0000000000000002 0000000000000600 00000200
+  REPLY 00000000 0000000000000002 41*512
+  > REQUEST 0000 0003 0000000000000003 0000000000000000 00000000
+  REPLY 00000000 0000000000000003
+  > LEAVE
+  ! 3 4
+  ! requests: 1 reads, 1 writes, 1 flushes, 0 trims; 1 with FUA, 0 split
+  $ dmlw list log
+  super version 1 entries 3 sectorsize 512
+  0 @1 write 3+1 fua
+  1 @3 flush
+  2 @4 mark dm-log-writes-end
+
+But the layers below have the later time: here a call comes to them after their hour of passing calls.
+  $ head
+  > data 64
+  > log 256
+  > data-layer 0 64 flakey disk 0 3600 3600
+  > data-layer 0 64 delay disk 0 3600000
+  $ dmlw serve head first log
+  > HELLO
+  BEGUN GOES-ON
+  > REQUEST 0001 0001 0000000000000001 0000000000000600 00000200 41*512
+  REPLY 00000005 0000000000000001
+  > REQUEST 0000 0000 0000000000000002 0000000000000600 00000200
+  REPLY 00000005 0000000000000002
+  > LEAVE
+  ! 2 3
+  ! requests: 1 reads, 1 writes, 0 flushes, 0 trims; 1 with FUA, 0 split
+  $ dmlw list log
+  super version 1 entries 2 sectorsize 512
+  0 @1 write 3+1 fua
+  1 @3 mark dm-log-writes-end
 
 The top layer's length is that of the disk, and the log has its sectors. FIRST is the disk below the layers.
   $ head

@@ -7,12 +7,16 @@ A session is data: what a client sends, what the server has to send, standard er
 time is in a session, so that the output is the same each time. A session fails if anything differs. Then all that differs is printed. The last line is `N passed, M failed`, and
 the status is 1 if a session failed. It needs nothing but Python 3 and the program.
 """
-import os, re, subprocess, sys, tempfile, threading
+import os, re, subprocess, sys, tempfile, threading, time
+from concurrent.futures import ThreadPoolExecutor
 
 from measure import ROOT, program_of
 
 # A server that hasn't ended after this many seconds is killed, and its session fails. So the time shows only if there is a fault.
 PATIENCE = 10
+
+# Sessions are played this many at a time, each in a folder of its own, and told of in their order.
+AT_ONCE = 4
 
 
 class Session:
@@ -23,7 +27,7 @@ class Session:
 
 
 class Command:
-    """A command, with its lines in their order: each has its mark (`>`, `+`, `!`, `[` of a status, or nothing for the output), its text and its number."""
+    """A command, with its lines in their order: each has its mark (`>`, `+`, `~`, `!`, `[` of a status, or nothing for the output), its text and its number."""
 
     def __init__(self, line, words):
         self.line, self.words, self.lines = line, words, []
@@ -65,7 +69,7 @@ def read_sessions(path):
             elif mark == "= ":
                 name, _, text = rest.partition(" ")
                 names[name] = bytes_of(text, names)
-            elif mark in ("> ", "+ ", "! "):
+            elif mark in ("> ", "+ ", "~ ", "! "):
                 sessions[-1].commands[-1].lines.append((mark[0], rest, number))
             elif status := re.fullmatch(r"  \[(\d+)\]", line):
                 sessions[-1].commands[-1].lines.append(("[", status[1], number))
@@ -140,11 +144,13 @@ def serve(program, command, room, names):
     for mark, text, _ in command.lines:
         if mark == "":
             wanted += len(bytes_of(text, names))
-        if mark in (">", "+"):
+        if mark in (">", "+", "~"):
             # the answers that come before it have to be there
             client.wait_for(wanted)
         if mark == ">":
             client.send(bytes_of(text, names))
+        if mark == "~":
+            time.sleep(float(text))
         if mark == "+":
             with open(f"{room}/marks", "ab") as it:
                 it.write(text.encode("latin-1").decode("unicode_escape").encode("latin-1"))
@@ -228,13 +234,17 @@ def main():
     os.environ.pop("DMLW_EXPLAIN", None)
     path = sys.argv[2] if len(sys.argv) > 2 else f"{ROOT}/bench/sessions.t"
     sessions, names = read_sessions(path)
-    failed = 0
-    for session in sessions:
+
+    def play(session):
         with tempfile.TemporaryDirectory() as room:
-            found = [f"  line {command.line}, {command.words}: {it}" for command in session.commands for it in differences(program, command, room, names)]
-        if found:
-            print("\n".join([f"FAILED line {session.line}: {session.name}", *found]))
-            failed += 1
+            return [f"  line {command.line}, {command.words}: {it}" for command in session.commands for it in differences(program, command, room, names)]
+
+    failed = 0
+    with ThreadPoolExecutor(AT_ONCE) as players:
+        for session, found in zip(sessions, players.map(play, sessions)):
+            if found:
+                print("\n".join([f"FAILED line {session.line}: {session.name}", *found]))
+                failed += 1
     print(f"{len(sessions) - failed} passed, {failed} failed")
     return 1 if failed or not sessions else 0
 

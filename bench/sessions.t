@@ -2,17 +2,19 @@ Sessions of `dmlw serve`, byte for byte. bench/sessions.py plays them. Each expe
 (doc/proto.md of the NetworkBlockDevice project), from docs/FORMATS.md or from a count by hand, never only from the
 program.
 
-A paragraph at the margin names a session, which begins without files. The commands of the session follow:
-`head` writes the file `head` from its lines, and the file `first`, which has as many zeroes as the data disk has bytes;
-`first` gives the first bytes of that file, and `length` its length; `write` writes a file from its lines; `show` prints
-the sectors of a file that aren't zeroes; and `dmlw` is the program. Below a command are its output, its standard error
-after `!`, and its status in brackets if it isn't 0.
+A paragraph at the margin names a session, which begins without files. The commands of the session follow. `head` writes
+the file `head` from its lines, and the file `first`, which has as many zeroes as the data disk has bytes. `first` gives
+the first bytes of that file, and `length` its length. `write` writes a file from its lines, and `show` prints the
+sectors of a file that aren't zeroes. `dmlw` is the program. Below a command are its output, its standard error after
+`!`, and its status in brackets if it isn't 0.
 
-Below `dmlw serve` is a dialog in bytes: what the client sends is after `>`, and what the server has to send is between
+Below `dmlw serve` is a dialog in bytes. What the client sends is after `>`, and what the server has to send is between
 these lines. The client sends a line when it has got all answers above it. A line after `+` is appended to the file
-`marks`, with its escapes (a line feed is `\n`). After the last line the client's bytes end. A word is hexadecimal
-digits, or such as `41*512`, which is 512 bytes 41, or a name. The lines with `=` give the names their bytes. `#` begins
-a remark.
+`marks`, with its escapes (a line feed is `\n`). After `~` is a number of seconds for which the client waits. After the
+last line the client's bytes end.
+
+A word of these bytes is hexadecimal digits, or such as `41*512`, which is 512 bytes 41, or a name. The lines with `=`
+give the names their bytes. `#` begins a remark.
 
 NBDMAGIC, IHAVEOPT, and the flags: the fixed newstyle, and no zeroes if the client refuses them.
   = GREETING 4e42444d41474943 49484156454f5054 0003
@@ -808,6 +810,30 @@ Under `drop_writes` a layer answers well what it doesn't do. That isn't in the l
   $ show out
   32768 bytes
   3: 41*512
+
+Layers have the time since the session began: after a second this one fails calls for an hour.
+  $ head
+  > data 64
+  > log 256
+  > data-layer 0 64 flakey disk 0 1 3600
+  $ dmlw serve head first log
+  > HELLO
+  BEGUN GOES-ON
+  ~ 1.1
+  > REQUEST 0000 0001 0000000000000001 0000000000000600 00000200 41*512
+  REPLY 00000005 0000000000000001
+  > REQUEST 0000 0000 0000000000000002 0000000000000600 00000200
+  REPLY 00000005 0000000000000002
+  > REQUEST 0000 0003 0000000000000003 0000000000000000 00000000
+  REPLY 00000005 0000000000000003
+  > LEAVE
+  ! 3 4
+  ! requests: 1 reads, 1 writes, 1 flushes, 0 trims; 0 with FUA, 0 split
+  $ dmlw list log
+  super version 1 entries 3 sectorsize 512
+  0 @1 write 3+1
+  1 @3 flush
+  2 @4 mark dm-log-writes-end
 
 A layer that delays each call by an hour delays no answer, since nothing waits for the call's end.
   $ head

@@ -21,7 +21,7 @@
 # or renames a file. At last it unmounts, and tells the sum of the whole disk. The second guest goes over all states by examples/each.sh: it mounts the state, looks for
 # each file that the marks up to there name, unmounts, and runs the file system's own check. The last state has to be the disk, unless layers fail writes: these are logged too.
 #
-# It needs qemu-system-x86_64, socat, cpio, kmod and the programs of the file system (e2fsprogs, xfsprogs, btrfs-progs). By emulation a file system takes some minutes with --every 40, and over half an hour if
+# It needs qemu-system-x86_64, socat, cpio, kmod and the programs of the file system (e2fsprogs, xfsprogs, btrfs-progs), for nbd also iproute2 and nbd-client. By emulation a file system takes some minutes with --every 40, and over half an hour if
 # every state is mounted.
 # The last line counts. The status is 0 if no state failed, 1 if one did, 2 if something lacks.
 set -u
@@ -46,6 +46,19 @@ while :; do
     shift 2
 done
 [ $# -ge 1 ] || { sed -n 2,4p "$0" && exit 2; }
+# nvme drops FUA (USING tells why), so its disk is written through.
+[ -n "$cache" ] || case $bus in nvme) cache=writethrough ;; *) cache=writeback ;; esac
+case $bus in
+virtio) attach='virtio-blk-pci,drive=d0' disk=/dev/vda ;;
+scsi) attach='virtio-scsi-pci -device scsi-hd,drive=d0,dpofua=on' disk=/dev/sda ;;
+plain-scsi) attach='virtio-scsi-pci -device scsi-hd,drive=d0' disk=/dev/sda ;;
+sata) attach='ide-hd,drive=d0,bus=ide.0' disk=/dev/sda ;;
+nvme) attach='nvme,drive=d0,serial=d0' disk=/dev/nvme0n1 ;;
+nbd) attach='virtio-net-pci,netdev=n' disk=/dev/nbd0 ;;
+*) echo "$0: --bus is virtio, scsi, plain-scsi, sata, nvme or nbd" && exit 2 ;;
+esac
+case $at in all | marks | flushes | fua | none) ;; *) echo "$0: --at is all, marks, flushes, fua or none" && exit 2 ;; esac
+case $cache in writeback | writethrough) ;; *) echo "$0: --cache is writeback or writethrough" && exit 2 ;; esac
 for it in qemu-system-x86_64 socat cpio depmod modprobe ldd; do
     command -v $it >/dev/null || { echo "left out: $it isn't installed" && exit 2; }
 done
@@ -64,17 +77,6 @@ kernel=$(realpath "$kernel")
 vmlinuz=$(ls "$kernel"/boot/vmlinuz-* | head -1)
 version=${vmlinuz##*/vmlinuz-}
 [ -f "$kernel/lib/modules/$version/modules.dep" ] || depmod -b "$kernel" "$version"
-# nvme drops FUA (USING tells why), so its disk is written through.
-[ -n "$cache" ] || case $bus in nvme) cache=writethrough ;; *) cache=writeback ;; esac
-case $bus in
-virtio) attach='virtio-blk-pci,drive=d0' disk=/dev/vda ;;
-scsi) attach='virtio-scsi-pci -device scsi-hd,drive=d0,dpofua=on' disk=/dev/sda ;;
-plain-scsi) attach='virtio-scsi-pci -device scsi-hd,drive=d0' disk=/dev/sda ;;
-sata) attach='ide-hd,drive=d0,bus=ide.0' disk=/dev/sda ;;
-nvme) attach='nvme,drive=d0,serial=d0' disk=/dev/nvme0n1 ;;
-nbd) attach='virtio-net-pci,netdev=n' disk=/dev/nbd0 ;;
-*) echo "$0: --bus is virtio, scsi, plain-scsi, sata, nvme or nbd" && exit 2 ;;
-esac
 
 # Copies programs and the libraries that they are linked with to a guest's files.
 add_programs() {

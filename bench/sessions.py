@@ -15,7 +15,7 @@ from measure import ROOT, program_of
 # A server that hasn't ended after this many seconds is killed, and its session fails. So the time shows only if there is a fault.
 PATIENCE = 10
 
-# Sessions are played this many at a time, each in a folder of its own, and told of in their order.
+# Sessions are played this many at a time, each in a folder of its own, and reported in their order.
 AT_ONCE = 4
 
 

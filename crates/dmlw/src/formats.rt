@@ -79,9 +79,9 @@ The other lines follow, `crash` only as the last one:
         Cuts the power of the log's disk. The first pick is for the lowest
         unsynced sector, the second for the next one, and so on. A sector has k
         candidates, counted from 0: its durable value, and then the values that
-        were written since, in order. It keeps candidate number pick modulo k,
-        or the durable value if there is no pick for it. Picks that are left
-        over change nothing.
+        were written since, in order. If there is a pick for the sector, it
+        keeps the candidate whose number is the remainder of pick / k. Otherwise
+        it keeps its durable value. Picks that are left over change nothing.
 
 An id is 1 to 16 characters, each `a` to `z` or `0` to `9`, and is submitted
 only once. If log sectors have 4,096 bytes, each request must begin and end at a
@@ -111,11 +111,13 @@ The log has its entries in the order in which they are queued:
 
 - A mark is queued at its line.
 - A flush, and a write with `flush` or `fua`, are queued at their own `c` line.
-- Any other write, or a discard, waits from its `c` line on. A flush, or a write
-  with `flush`, that is submitted after this line queues it at its own `c` line.
-  A write with `fua` queues it in the same way if the two overlap. It also does
-  so if the waiting request overlaps a request that began to wait later and that
-  this write queues, so that requests which overlap keep their order.
+- Any other write, or a discard, waits from its `c` line on. The `c` line of a
+  flush, or of a write with `flush`, queues it if that was submitted after it
+  began to wait. The `c` line of a write with `fua` queues it if the two
+  overlap, whenever that write was submitted.
+- A write with `fua` also queues a waiting request that it doesn't overlap, if
+  that request overlaps another one which this write queues and which began to
+  wait later. So requests that overlap keep their order.
 - What still waits at `close` is queued there, before the end mark.
 
 The waiting requests that a flush or a write queues come before it in the log,
@@ -133,12 +135,13 @@ one queued entry at each `turn`, and all of them at `close`.
 
 ### How large the log must be
 
-The log has a super block in its first log sector. Each entry takes one more,
-and a write also takes those of its data. The last log sector is never used. So
-the script of one write of a sector, a flush and the end mark at `close` needs 1
-for the super block, 2, 1 and 1 for the entries, and 1 that is unused, which is
-`log 6`. In a larger log nothing differs. In a smaller one logging ends early,
-which `record` reports with the word `logging_disabled` and the status 3.
+The log has a super block in its first log sector. Each entry takes one log
+sector, and a write takes as many more as its data has. The last log sector is
+never used. For example, one write of a sector, a flush and `close` need
+`log 6`: 1 sector for the super block, 2 for the write, 1 for the flush, 1 for
+the end mark, and the last one, which is unused. In a larger log nothing
+differs. In a smaller one logging ends early, which `record` reports with the
+word `logging_disabled` and the status 3.
 
 ## Scripts of `run`
 
@@ -185,17 +188,18 @@ any word. Requests must fit in the top layer. A layer over a log with sectors of
         Has bad blocks of `blksz` bytes. At first it has none, and they fail no
         call until messages list some and enable it.
     0 <length> delay <dev> <offset> <ms>
-        Begins each call `ms` milliseconds later. `<dev> <offset> <ms>` may
-        follow again, for writes, discards and flushes, and a third time, for
-        flushes. The device and the offset must be the same each time.
+        Begins each call `ms` milliseconds later. Three more words
+        `<dev> <offset> <ms>` may follow, whose `ms` is for writes, discards and
+        flushes, and then three more, whose `ms` is for flushes. The device and
+        the offset must be the same each time.
 
 A dust layer takes the following messages, with one space between two words.
 Blocks count from 0, and must begin within the layer.
 
     addbadblock <block> [<count>]
-        Lists the block as bad: a read of it fails. The next `count` writes and
-        discards of it fail too, none if no count is given. The one after these
-        is done, and takes the block off the list.
+        Lists the block as bad, so that each read of it fails. The next `count`
+        writes and discards of it fail too; without a `count` none does. The
+        write or discard after these succeeds, and takes the block off the list.
     removebadblock <block>
         Takes the block off the list.
     clearbadblocks
@@ -246,15 +250,16 @@ on standard input and output, and records its requests. HEAD is a script of
 content of the data disk, and as large as it. LOG is written at the end of the
 session, when the client disconnects or its bytes end.
 
-Each request is recorded from its submission to its end, and in between it is
-done on the data disk, at the milliseconds since the start. A write with FUA is
+Each request is submitted, done on the data disk and ended, one at a time.
+Layers go by the milliseconds since the session began. A write with FUA is
 answered when its entry is durable, or when logging has ended. Reads aren't
 recorded. FLUSH, FUA and TRIM are offered. A long request is recorded in parts
-of 2,048 sectors: each part of a write has its FUA, and a flush follows a trim
-with FUA. With log sectors of 4,096 bytes requests are whole blocks of 4,096
-bytes. A request is answered EIO if a layer fails it, EINVAL if it isn't whole
-blocks or isn't known, ENOSPC past the end, and ENOMEM if memory ran out. If
-logging ends, the session goes on unrecorded, and the exit status is 3.
+of 2,048 sectors. If a write has FUA, each of its parts has it. A trim with FUA
+is recorded as a discard and then a flush. With log sectors of 4,096 bytes
+requests are whole blocks of 4,096 bytes. A request is answered EIO if a layer
+fails it, EINVAL if it isn't whole blocks or isn't known, ENOSPC past the end,
+and ENOMEM if memory ran out. If logging ends, the session goes on unrecorded,
+and the exit status is 3.
 
 Each line that is appended to FILE becomes a mark, before the next request or at
 the end. What `record` prints at its end goes to standard error.
@@ -313,8 +318,9 @@ prints one of
     no sector <s> ruled out by event <p>
     no sector <s> holds no submitted value
 
-The second line means no: event p rules out what sector s holds. The third is
-printed if no durable request covers the sector.
+Both other lines mean no. The second names the durable request, event p, that
+rules out what sector s holds. The third is printed if no durable request covers
+the sector, but it holds neither zeroes nor a submitted value.
 
 The lines `w`, `f`, `d`, `c` and `mark`, up to `close`, and `close` itself are
 events. They count from 0. What follows `close` isn't an event. For a script
@@ -341,7 +347,7 @@ the requests of the first M events in their order, and leave the image.
 
     submit <id>             the request of event number id is submitted
     land <id> <sector>      its value reaches the cache, for one sector
-    destage <sector>        the sector goes from the cache to what power leaves
+    destage <sector>        its value in the cache becomes what power leaves
     end <id> ok             the request ends; or `end <id> failed`
     power                   power fails: the last step
 
@@ -365,7 +371,8 @@ and the third for a replay or a copy that stopped:
     dmlw: line <n>: <number> <name>
     dmlw: <number> <name> after <n> entries
 
-     2 Memory         memory ran out (with the line of a `close` or a message)
+     2 Memory         memory ran out; at a `close` or a message of a script the
+                      fault has its line
      3 PastEnd        a request reaches past the disk's end
      4 TooLong        a request has over 2,048 sectors
      5 NotWhole       a request has no sector
@@ -380,12 +387,13 @@ and the third for a replay or a copy that stopped:
     13 BadMagic       the image isn't a log
     14 BadVersion     the log has another version
     15 BadSectorSize  log sectors aren't 512, 1024, 2048 or 4096 bytes
-    16 BadMark        a mark in the log is one that no log can have
-    17 TooLarge       an entry in the log is one that no log can have
+    16 BadMark        a mark in the log has sectors, or a text that is too long
+    17 TooLarge       an entry in the log ends past byte 2^63 - 1 of the data
+                      disk
     18 Full           the next entry doesn't fit on the disk of a copy
     19 Device         no log could be made, because its device failed (status 3)
-    20 Memory         no log could be made for lack of memory (status 3), or the
-                      log of a copy found none (status 1)
+    20 Memory         memory ran out when a log was to be made (status 3), or in
+                      the log of a copy (status 1)
     21 CutShort       the log is shorter than it says
     24 Busy           a request is open at a `close`
     25 NoSuchMark     the log lacks the mark to replay up to
@@ -411,9 +419,10 @@ and the third for a replay or a copy that stopped:
 
 `crates/refusals` has the whole table; no command reports the other numbers.
 
-A usage fault has the status 2, and is reported before a file is read: M, the n
-of `entries:<n>`, or SECTORS isn't a number within its limits, WHAT has another
-form, or a file's name isn't UTF-8 text.
+A usage fault has the status 2, and is reported before any file is read. It
+means that M, the n of `entries:<n>` or SECTORS isn't a number within its
+limits, that WHAT has none of the forms above, or that a file's name isn't UTF-8
+text.
 
 ## Limits
 
@@ -487,17 +496,18 @@ spaces. They say:
 
 - for a script's line: the line, its number, the form that it should have, and
   the usual cause if it is seen (a carriage return, a byte order mark, a tab, an
-  upper case letter), or else the first word that doesn't fit, or what its place
-  asks for;
-- for a log: how many entries it has, or which comes next; for an image: its
-  size; for a file: its name and the system's reason;
+  upper case letter). If none is seen, they name the first word that doesn't
+  fit, or say what has to come at this place.
+- for a log: how many entries it has, or the next entry; for an image: its size;
+  for a file: its name and the system's reason
 - if `judge` says no: the line of the event that rules the sector out; for a run
-  of `path`: the script's line for each step;
-- at status 0: that a script has no `close`.
+  of `path`: the script's line for each step
+- at status 0: that a script has no `close`
 
-Their wording may change; that of the other lines doesn't. The program adds the
-word itself if the variable `DMLW_EXPLAIN` is `1`. The launcher `./dmlw` also
-adds it at a terminal, unless the variable is `0`. Input from a pipe is
+The wording of these lines may change, but all other lines keep theirs. The
+program adds the word itself if the variable `DMLW_EXPLAIN` is `1`. The
+launchers `./dmlw` and `dmlw`, if it is installed, also add it at a terminal,
+unless the variable is `0`. Input from a pipe is
 explained from the bytes that were read, if they are at most 4,194,304. To name
 a file called `--explain`, write `./--explain`.
 "#;

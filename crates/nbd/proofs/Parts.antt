@@ -18,10 +18,11 @@ use Rattle.blockdev.specs.declared.device.BlockDev.{Ghosts}
 use Rattle.nbd.specs.declared.fault.RequestFault.{RequestFault}
 use Rattle.nbd.specs.declared.range.Range.{Range}
 use Rattle.nbd.specs.declared.server.Server.{Server}
-use Rattle.nbd.specs.Requests.{AreDiscards, AreWrites, GiveInTurn, IsInDevice, OnlyReadsData}
-use Rattle.nbd.specs.Requests.{SendsRange, TrimsParts, WritesParts}
+use Rattle.nbd.specs.Requests.{AreDiscards, AreWrites, FailsInRange, FailsRead, FailsReading}
+use Rattle.nbd.specs.Requests.{GiveInTurn, IsInDevice, OnlyReadsData, SendsRange, TrimsParts}
+use Rattle.nbd.specs.Requests.{WritesParts}
 use Rattle.nbd.specs.Serving.{GivesResult, ServerFrame}
-use Rattle.nbd.specs.Wire.{reply_bytes}
+use Rattle.nbd.specs.Wire.{error_of, reply_bytes}
 use Rattle.nbd.proofs.Frames.{consumed_more, consumed_none}
 
 -- ---- requests in turn
@@ -256,24 +257,77 @@ sent_more content first done count bytes old mid new before after is =
 
 -- A reply's header was sent, and then the content.
 pub sends_after : {D L E : Type 0} {d : Ghosts D} {l : Ghosts L} (result : Result Unit E)
-    (range : Range) (cookie : ℕ) (head bytes : List ℕ) (before mid after : Option (List ℕ))
+    (now : ℕ) (range : Range) (cookie : ℕ) (head bytes : List ℕ) (before mid after : Option (List ℕ))
     (old new : Server D L d l) → Appends before mid head → OnOk result (Appends mid after bytes)
     → head ≡ reply_bytes 0 cookie → OnlyReadsData old new
     → bytes ≡ gather (d.shown old.disk).content range.first range.count
-    → OnOk result ((out : List ℕ) × Appends before after out × SendsRange range cookie out old new)
-sends_after (Err error) range cookie head bytes before mid after old new first next is only same =
-    next
-sends_after (Ok done) range cookie head bytes before mid after old new first next is only same = (
-  head ++ bytes,
-  Appends-trans before mid after head bytes first next,
-  (
-    only,
-    inl (
-        ap (λ (xs : List ℕ). xs ++ bytes) is
-        ∙ ap (λ (xs : List ℕ). reply_bytes 0 cookie ++ xs) same
-        ),
-  ),
+    → OnOk result ((out : List ℕ) × Appends before after out
+    × SendsRange now range cookie out old new)
+sends_after (Err error) now range cookie head bytes before mid after old new first next is only
+    same = next
+sends_after (Ok done) now range cookie head bytes before mid after old new first next is only
+    same = (
+      head ++ bytes,
+      Appends-trans before mid after head bytes first next,
+      (
+        only,
+        inl (
+            ap (λ (xs : List ℕ). xs ++ bytes) is
+            ∙ ap (λ (xs : List ℕ). reply_bytes 0 cookie ++ xs) same
+            ),
+      ),
+    )
+
+-- A reply with the error was sent that the read failed by.
+pub sends_fault : {D L E : Type 0} {d : Ghosts D} {l : Ghosts L} (result : Result Unit E)
+    (now : ℕ) (range : Range) (cookie : ℕ) (fault : RequestFault) (before after : Option (List ℕ))
+    (old new : Server D L d l) → OnlyReadsData old new → FailsReading now range fault old new
+    → OnOk result (Appends before after (reply_bytes (error_of (Err fault)) cookie))
+    → OnOk result ((out : List ℕ) × Appends before after out
+    × SendsRange now range cookie out old new)
+sends_fault (Err error) now range cookie fault before after old new only fails sent = sent
+sends_fault (Ok done) now range cookie fault before after old new only fails sent = (
+  reply_bytes (error_of (Err fault)) cookie,
+  sent,
+  (only, inr (fault, fails, refl)),
 )
+
+-- The data device failed the read of a part, after other parts were read.
+pub fails_later : {D L : Type 0} {d : Ghosts D} {l : Ghosts L} (now : ℕ) (range : Range)
+    (done count : ℕ) (before after : List ℕ) (fault : RequestFault) (old last new : Server D L d l)
+    → OnlyReadsData old last → length before ≡ count * 512 → done + count ≤ range.count
+    → FailsRead now (range.first + done) before after fault last new
+    → FailsInRange now range fault old new
+fails_later now range done count before after fault old last new reads whole few fails =
+    record {
+      last = last;
+      reads = reads;
+      part = record { first = range.first + done; count = count };
+      begins = omega arith;
+      ends = omega arith;
+      before = before;
+      after = after;
+      whole = whole;
+      fails = fails;
+    }
+
+-- The data device failed the read of all sectors.
+pub fails_now : {D L : Type 0} {d : Ghosts D} {l : Ghosts L} (now : ℕ) (range : Range)
+    (before after : List ℕ) (fault : RequestFault) (old new : Server D L d l)
+    → length before ≡ range.count * 512 → FailsRead now range.first before after fault old new
+    → FailsInRange now range fault old new
+fails_now now range before after fault old new whole fails =
+    record {
+      last = old;
+      reads = reads_none old;
+      part = range;
+      begins = omega arith;
+      ends = omega arith;
+      before = before;
+      after = after;
+      whole = whole;
+      fails = fails;
+    }
 
 -- ---- a write and a trim so far
 

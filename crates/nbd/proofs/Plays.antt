@@ -109,7 +109,7 @@ module _ {D L : Type 0} {d : Ghosts D} {l : Ghosts L} where
   pub read_answered : {E : Type 0} (result : Result Unit E) (command : RequestKind) (now : ℕ)
       (h : RequestHeader) (input before after : Option (List ℕ)) (old new : Server D L d l)
       → command ≡ commands.Read
-      → OnOk result ((out : List ℕ) × Appends before after out × AnswersRead h out old new)
+      → OnOk result ((out : List ℕ) × Appends before after out × AnswersRead now h out old new)
       → OnOk result ((body out : List ℕ) × Consumes input input body × Appends before after out
       × RepliesTo command now h body out old new)
   read_answered (Err error) command now h input before after old new is answers = answers

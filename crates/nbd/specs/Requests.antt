@@ -4,10 +4,12 @@ use Rattle.std.specs.Prelude.{Bool, false, Option, Result, Ok, Err, Some, if◌t
 use Rattle.std.specs.Io.KnownBytes.{Appends, Consumes}
 use Rattle.std.specs.List.{flat_map}
 use Rattle.bio.specs.Content.{gather, nothing}
+use Rattle.bio.specs.declared.outcome.DevError.{DevError}
 use Rattle.bio.specs.declared.request.Bio.{Bio}
 use Rattle.bio.specs.declared.request.Bio.TheVariants as bios
 use Rattle.bio.specs.Requests.{bytes_of}
 use Rattle.blockdev.specs.Law.{DeviceFrame}
+use Rattle.blockdev.specs.View.{Reads}
 use Rattle.blockdev.specs.declared.device.BlockDev.{Ghosts}
 use Rattle.nbd.specs.declared.fault.RequestFault.{RequestFault}
 use Rattle.nbd.specs.declared.fault.RequestFault.TheVariants as faults
@@ -17,8 +19,8 @@ use Rattle.nbd.specs.declared.wire.RequestKind.{RequestKind}
 use Rattle.nbd.specs.declared.wire.RequestKind.TheVariants as commands
 use Rattle.nbd.specs.declared.wire.RequestHeader.{RequestHeader}
 use Rattle.nbd.specs.Serving.{GivesResult, NotesMark}
-use Rattle.nbd.specs.Wire.{command_of, error_of, has_fua_flag, request_header, request_range}
-use Rattle.nbd.specs.Wire.{reply_bytes}
+use Rattle.nbd.specs.Wire.{command_of, error_of, fault_of_device, has_fua_flag, reply_bytes}
+use Rattle.nbd.specs.Wire.{request_header, request_range}
 
 -- The range is within the server's data device, and whole blocks.
 pub record IsInDevice {D L : Type 0} {d : Ghosts D} {l : Ghosts L} (server : Server D L d l)
@@ -109,26 +111,56 @@ pub record OnlyReadsData {D L : Type 0} {d : Ghosts D} {l : Ghosts L}
   pub recorder : new.recorder ≡ old.recorder
   pub device : DeviceFrame nothing (d.shown old.disk) (d.shown new.disk)
 
--- What a read of these sectors sends: a reply and the content of the sectors, or a reply with an
--- error.
-abbrev pub SendsRange : {D L : Type 0} {d : Ghosts D} {l : Ghosts L} → Range → ℕ → List ℕ
+-- The data device failed a read at the time `now`, of the sectors from `first` on. The read's buffer
+-- had the bytes `before`, and has the bytes `after`. `fault` is the error of the device's call.
+pub record FailsRead {D L : Type 0} {d : Ghosts D} {l : Ghosts L} (now first : ℕ)
+    (before after : List ℕ) (fault : RequestFault) (old new : Server D L d l) : Type 0 where
+  pub error : DevError
+  pub fails : d.does old.disk (Reads first before after) now (Err error) new.disk
+  pub is : fault ≡ fault_of_device error
+
+-- The data device failed a read at the time `now`, of some of these sectors. Before that, other
+-- parts may have been read.
+pub record FailsInRange {D L : Type 0} {d : Ghosts D} {l : Ghosts L} (now : ℕ) (range : Range)
+    (fault : RequestFault) (old new : Server D L d l) : Type 0 where
+  pub last : Server D L d l
+  pub reads : OnlyReadsData old last
+  pub part : Range
+  pub begins : range.first ≤ part.first
+  pub ends : part.first + part.count ≤ range.first + range.count
+  pub before : List ℕ
+  pub after : List ℕ
+  pub whole : length before ≡ part.count * 512
+  pub fails : FailsRead now part.first before after fault last new
+
+-- Why a read of these sectors is answered with an error: the data device failed the read of some of
+-- them; or memory ran out, and the device wasn't called.
+abbrev pub FailsReading : {D L : Type 0} {d : Ghosts D} {l : Ghosts L} → ℕ → Range → RequestFault
     → Server D L d l → Server D L d l → Type 0
-SendsRange {d = d} range cookie out old new =
+FailsReading now range fault old new =
+    FailsInRange now range fault old new ⊎ ((fault ≡ faults.NoMemory) × (new ≡ old))
+
+-- What a read of these sectors at the time `now` sends: a reply and the content of the sectors, or a
+-- reply with the error that the read failed by.
+abbrev pub SendsRange : {D L : Type 0} {d : Ghosts D} {l : Ghosts L} → ℕ → Range → ℕ → List ℕ
+    → Server D L d l → Server D L d l → Type 0
+SendsRange {d = d} now range cookie out old new =
     OnlyReadsData old new
     × ((out ≡ reply_bytes 0 cookie ++ gather (d.shown old.disk).content range.first range.count)
-    ⊎ ((fault : RequestFault) × (out ≡ reply_bytes (error_of (Err fault)) cookie)))
+    ⊎ ((fault : RequestFault) × FailsReading now range fault old new
+    × (out ≡ reply_bytes (error_of (Err fault)) cookie)))
 
 -- What a read sends: its sectors are judged first, and a read that is refused is answered with the
 -- error.
 abbrev pub AnswersRange : {D L : Type 0} {d : Ghosts D} {l : Ghosts L} → Result Range RequestFault → ℕ
-    → List ℕ → Server D L d l → Server D L d l → Type 0
-AnswersRange (Err fault) cookie out old new =
+    → ℕ → List ℕ → Server D L d l → Server D L d l → Type 0
+AnswersRange (Err fault) now cookie out old new =
     (out ≡ reply_bytes (error_of (Err fault)) cookie) × (new ≡ old)
-AnswersRange (Ok range) cookie out old new = SendsRange range cookie out old new
+AnswersRange (Ok range) now cookie out old new = SendsRange now range cookie out old new
 
-abbrev pub AnswersRead : {D L : Type 0} {d : Ghosts D} {l : Ghosts L} → RequestHeader
+abbrev pub AnswersRead : {D L : Type 0} {d : Ghosts D} {l : Ghosts L} → ℕ → RequestHeader
     → List ℕ → Server D L d l → Server D L d l → Type 0
-AnswersRead h out old new = AnswersRange (range_on old h) h.cookie out old new
+AnswersRead now h out old new = AnswersRange (range_on old h) now h.cookie out old new
 
 -- ---- the whole session
 
@@ -147,7 +179,7 @@ Replies answer h out = out ≡ reply_bytes (error_of answer) h.cookie
 -- A request to disconnect has no reply.
 abbrev pub RepliesTo : {D L : Type 0} {d : Ghosts D} {l : Ghosts L} → RequestKind → ℕ → RequestHeader
     → List ℕ → List ℕ → Server D L d l → Server D L d l → Type 0
-RepliesTo commands.Read now h body out old new = (body ≡ []) × AnswersRead h out old new
+RepliesTo commands.Read now h body out old new = (body ≡ []) × AnswersRead now h out old new
 RepliesTo commands.Write now h body out old new = (length body ≡ h.length)
     × ((answer : Result Unit RequestFault) × WritesBody now h body answer old new × Replies answer h out)
 RepliesTo commands.Disconnect now h body out old new = ⊥

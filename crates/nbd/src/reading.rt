@@ -1,8 +1,8 @@
 //! Reads.
-ghost use Rattle.std.specs.Prelude.{min, ◌≡◌, ◌≢◌, ◌<◌, ◌≤◌, Err, IfOk, OnOk, List, length, ◌*◌, ℕ};
+ghost use Rattle.std.specs.Prelude.{min, ◌≡◌, ◌≢◌, ◌<◌, ◌≤◌, Err, IfErr, IfOk, OnOk, List, length, ◌*◌, ℕ};
 ghost use Rattle.std.specs.Io.KnownBytes.{Appends};
 ghost use Rattle.bio.specs.Content.{gather};
-ghost use Rattle.nbd.specs.Requests.{AnswersRead, IsInDevice, OnlyReadsData, SendsRange};
+ghost use Rattle.nbd.specs.Requests.{AnswersRead, FailsInRange, IsInDevice, OnlyReadsData, SendsRange};
 ghost use Rattle.nbd.specs.Serving.{ServerFrame};
 
 use crate::fault::RequestFault;
@@ -27,7 +27,7 @@ pub(crate) fn answer_read<D: BlockDev + Drop, L: BlockDev + Drop, O: Write>(
 ) -> Result<(), SessionEnd>
     ensures answers { OnOk result ((out : List ℕ)
         × Appends (O.contents output.old) (O.contents output.new) out
-        × AnswersRead header.now out server.old server.new) }
+        × AnswersRead now header.now out server.old server.new) }
     ensures only { OnlyReadsData server.old server.new }
     ensures not_ended { result ≢ Err SessionEnd.InputEnded }
     ensures goes { ServerFrame server.old server.new }
@@ -53,7 +53,7 @@ fn answer_range<D: BlockDev + Drop, L: BlockDev + Drop, O: Write>(
     requires some { 0 < range.count }
     ensures answers { OnOk result ((out : List ℕ)
         × Appends (O.contents output.old) (O.contents output.new) out
-        × SendsRange range cookie out server.old server.new) }
+        × SendsRange now range cookie out server.old server.new) }
     ensures only { OnlyReadsData server.old server.new }
     ensures not_ended { result ≢ Err SessionEnd.InputEnded }
     ensures goes { ServerFrame server.old server.new }
@@ -83,7 +83,7 @@ fn answer_short<D: BlockDev + Drop, L: BlockDev + Drop, O: Write>(
     requires buffer { length buffer.old ≡ range.count * 512 }
     ensures answers { OnOk result ((out : List ℕ)
         × Appends (O.contents output.old) (O.contents output.new) out
-        × SendsRange range cookie out server.old server.new) }
+        × SendsRange now range cookie out server.old server.new) }
     ensures only { OnlyReadsData server.old server.new }
     ensures not_ended { result ≢ Err SessionEnd.InputEnded }
     ensures goes { ServerFrame server.old server.new }
@@ -112,7 +112,7 @@ fn answer_long<D: BlockDev + Drop, L: BlockDev + Drop, O: Write>(
     requires buffer { length buffer.old ≡ min range.count 2048 * 512 }
     ensures answers { OnOk result ((out : List ℕ)
         × Appends (O.contents output.old) (O.contents output.new) out
-        × SendsRange range cookie out server.old server.new) }
+        × SendsRange now range cookie out server.old server.new) }
     ensures only { OnlyReadsData server.old server.new }
     ensures not_ended { result ≢ Err SessionEnd.InputEnded }
     ensures goes { ServerFrame server.old server.new }
@@ -137,6 +137,7 @@ fn try_parts<D: BlockDev + Drop, L: BlockDev + Drop>(
 ) -> Result<(), RequestFault>
     requires device { IsInDevice server.old range }
     requires buffer { length buffer.old ≡ min range.count 2048 * 512 }
+    ensures fails { IfErr result (λ fault. FailsInRange now range fault server.old server.new) }
     ensures length { length buffer.new ≡ length buffer.old }
     ensures only { OnlyReadsData server.old server.new }
     ensures goes { ServerFrame server.old server.new }

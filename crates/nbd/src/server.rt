@@ -32,7 +32,7 @@ impl<D: BlockDev + Drop, L: BlockDev + Drop> Server<D, L> {
     ghost use Rattle.blockdev.specs.View.{IsByteRange};
     ghost use Rattle.recorder.specs.Calls.{SubmitsRequest, core_of};
     ghost use Rattle.script_runner.specs.Lines.{reply_of};
-    ghost use Rattle.nbd.specs.Requests.{OnlyReadsData};
+    ghost use Rattle.nbd.specs.Requests.{FailsRead, OnlyReadsData};
     ghost use Rattle.nbd.specs.Serving.{CarriesOut, Empties, EndsLog, GivesResult, IsClosedBy, IsShort, IsSure};
     ghost use Rattle.nbd.specs.Serving.{IsTimed, Notes, NotesMark, ServerFrame};
 
@@ -177,18 +177,22 @@ impl<D: BlockDev + Drop, L: BlockDev + Drop> Server<D, L> {
         Ok(())
     }
 
-    /// Reads whole sectors of the data device, from sector `first` on.
+    /// Reads whole sectors of the data device, from sector `first` on. An error is the device's.
     pub fn read(&mut self, now: Ms, first: u64, buffer: &mut [u8]) -> Result<(), RequestFault>
         requires { IsByteRange (D.shown self.old.disk).size first (length buffer.old) }
         ensures bytes { OnOk result (buffer.new
             ≡ gather (D.shown self.old.disk).content first (length buffer.old / 512)) }
+        ensures fails { IfErr result
+            (λ fault. FailsRead now first buffer.old buffer.new fault self.old self.new) }
         ensures length { length buffer.new ≡ length buffer.old }
         ensures only { OnlyReadsData self.old self.new }
         ensures goes { ServerFrame self.old self.new }
     {
         recorder::laws::several_calls_go_as_one::<L>();
-        self.disk.read(now, first, buffer)?;
-        Ok(())
+        match self.disk.read(now, first, buffer) {
+            Ok(_) => Ok(()),
+            Err(error) => Err(RequestFault::from(error)),
+        }
     }
 
     // Returns whether a request is acknowledged, or isn't recorded since logging has ended.

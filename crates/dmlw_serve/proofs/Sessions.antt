@@ -1,7 +1,7 @@
 -- Proves what a session begins with, and what it leaves.
 use Rattle.std.proofs.Common.{◌≡◌, ◌⊎◌, ◌∙◌, ◌/◌, ◌+◌, ◌<◌, ℕ, List, [], ◌∷◌, Option, Some, None, Result}
 use Rattle.std.proofs.Common.{Bor, Ok, Err, IfErr, ap, arith, inl, inr, length, refl, subst, sym}
-use Rattle.std.specs.Prelude.{◌≤◌, ◌&&◌, Bool, false, IfOk, OnOk, if◌then◌else◌, not, is_some}
+use Rattle.std.specs.Prelude.{◌≢◌, ◌≤◌, ◌&&◌, Bool, false, IfOk, OnOk, if◌then◌else◌, not, is_some}
 use Rattle.std.specs.Prelude.{option_copied, take, true}
 use Rattle.std.specs.Result.{IsErr, IsErrAnd}
 use Rattle.refusals.specs.declared.run_error.RunError.{RunError}
@@ -42,6 +42,7 @@ use Rattle.script_runner.specs.DiskRun.{IsUnmadeOn, seen_on}
 use Rattle.refusals.specs.Errors.{memory_error}
 use Rattle.std.specs.Io.KnownBytes.{Appends, Consumes}
 use Rattle.refusals.specs.declared.refusal.Refusal.{Refusal}
+use Rattle.refusals.specs.declared.refusal.Refusal.TheVariants as refusals
 use Rattle.dmlw_files.specs.Files.{image_of}
 use Rattle.nbd.specs.declared.serving.Served.{Served as Ending}
 use Rattle.nbd.specs.declared.serving.Served.TheVariants.{BrokeOff, Disconnected}
@@ -49,8 +50,8 @@ use Rattle.nbd.specs.declared.session.SessionEnd.{SessionEnd}
 use Rattle.nbd.specs.Serving.{EndsLog, ServerFrame}
 use Rattle.nbd.specs.Sessions.{IsBroken, SessionIsPlayed}
 use Rattle.dmlw_serve.specs.declared.session.ServedSession.{ServedSession}
-use Rattle.dmlw_serve.specs.Serves.{Begun, DiskServer, FailsServing, IsStackWithImage, IsOnlyHead, Leaves}
-use Rattle.dmlw_serve.specs.Serves.{Reports, file, unmade}
+use Rattle.dmlw_serve.specs.Serves.{Begun, DiskServer, FailsStart, IsStackWithImage, Leaves, Reports}
+use Rattle.dmlw_serve.specs.Serves.{other_size, short, unmade}
 
 pub file_told : (error : FileError) → IsFileError (refused_by (file_refusal error))
 file_told file_errors.Unusable = inl refl
@@ -70,6 +71,11 @@ pub both : {T E Q : Type 0} {P R : T → Type 0} (result : Result T E) → IfOk 
 both (Ok value) one two follows = follows value one two
 both (Err error) one two follows = tt
 
+pub both_failed : {T E : Type 0} {P Q R : E → Type 0} (result : Result T E) → IfErr result P
+    → IfErr result Q → ((error : E) → P error → Q error → R error) → IfErr result R
+both_failed (Ok value) one two follows = tt
+both_failed (Err error) one two follows = follows error one two
+
 -- The error that a failed call returns is the one that it had.
 pub same_error : {T E : Type 0} (result : Result T E) (error other : E)
     → IsErrAnd result (λ it. it ≡ error) → error ≡ other → result ≡ Err other
@@ -88,26 +94,28 @@ filled disk image bare stack size begins is named over = record {
   over = rw is over;
 }
 
--- What `start` fails by is what `serve` fails by.
-pub unmade_or_file : {text first : Option (List ℕ)} (head image : List ℕ) (plan : ScriptValue)
-    → MatchesContents text head → MatchesContents first image → IsTextOf head plan → IsOnlyHead plan
-    → (fault : RunError)
-    → IsFileError fault ⊎ ((length image / 512 ≡ plan.data_disk.sectors)
-    × IsUnmade (bytes_of plan.log_size) plan.log_disk fault) → FailsServing text first fault
-unmade_or_file head image plan held there spelled is fault (inl fails) = file fault fails
-unmade_or_file head image plan held there spelled is fault (inr fails) =
-    unmade head image plan fault held there spelled is fails.0 fails.1
+-- What a data disk can't be made for, no server can be made for.
+pub unfilled : (plan : ScriptValue) (image : List ℕ) (disk : Disk) (fault error : RunError)
+    → disk ≡ plan.data_disk → fault ≡ error
+    → (error ≡ memory_error)
+    ⊎ ((length image / 512 ≢ disk.sectors) × (error ≡ refused_by refusals.File))
+    → FailsStart plan image fault
+unfilled plan image disk fault error same is (inl lacks) =
+    subst (FailsStart plan image) (sym (is ∙ lacks)) short
+unfilled plan image disk fault error same is (inr other) =
+    subst (FailsStart plan image) (sym (is ∙ other.1))
+    (other_size (λ e. other.0 (e ∙ ap (λ (d : Disk). d.sectors) (sym same))))
 
 -- Where a recorder can't be made on the log's stack, memory ran out or no log could be made.
 pub unmade_at : (plan : ScriptValue) (image : List ℕ) (log : Stack) (fault error : RunError)
     → length image / 512 ≡ plan.data_disk.sectors → IsStackOf plan.log_disk log
     → fault ≡ error
     → (error ≡ memory_error) ⊎ IsUnmadeOn on_stack (bytes_of plan.log_size) log error
-    → IsFileError fault ⊎ ((length image / 512 ≡ plan.data_disk.sectors)
-    × IsUnmade (bytes_of plan.log_size) plan.log_disk fault)
-unmade_at plan image log fault error size blank is (inl short) = inl (inr (is ∙ short))
+    → FailsStart plan image fault
+unmade_at plan image log fault error size blank is (inl lacks) =
+    subst (FailsStart plan image) (sym (is ∙ lacks)) short
 unmade_at plan image log fault error size blank is (inr refused) =
-    inr (size, rw is (record { stack = log; blank = blank; refused = refused }))
+    unmade fault size (rw is (record { stack = log; blank = blank; refused = refused }))
 
 pub begins : (plan : ScriptValue) (image : List ℕ) (server : DiskServer) (log store : Stack)
     (recorder : DiskRecorder) → server.recorder ≡ recorder → server.disk ≡ store

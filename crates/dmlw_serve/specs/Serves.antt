@@ -1,13 +1,13 @@
 -- What `serve` leaves: the log of a recorder that began with the disks of a script's head. And why
 -- it fails.
-use Rattle.std.specs.Prelude.{◌≡◌, ◌/◌, ℕ, List, [], IfOk, Option, Some, None, Result, Ok, false, length}
+use Rattle.std.specs.Prelude.{◌≡◌, ◌≢◌, ◌⊎◌, ◌/◌, ℕ, List, [], IfOk, Option, Some, None, Result, Ok, false, length}
 use Rattle.std.specs.Io.KnownBytes.{Appends, Consumes}
 use Rattle.refusals.specs.declared.refusal.Refusal.{Refusal}
 use Rattle.refusals.specs.declared.refusal.Refusal.TheVariants as refusals
 use Rattle.refusals.specs.declared.run_error.Fault.{Fault}
 use Rattle.refusals.specs.declared.run_error.RunError.{RunError}
 use Rattle.refusals.specs.declared.run_error.RunError.TheVariants.{Refused}
-use Rattle.refusals.specs.Errors.{IsFileError}
+use Rattle.refusals.specs.Errors.{IsFileError, memory_error, refused_by}
 use Rattle.bio.specs.Content.{sector_of}
 use Rattle.bio.specs.Requests.{bytes_of}
 use Rattle.sector_disk.specs.DiskView.{PastBegins, shown_of}
@@ -24,7 +24,8 @@ use Rattle.dmlw_script.specs.FirstFault.{IsFaultOf}
 use Rattle.dmlw_script.specs.Grammar.{IsLineOf, IsTextOf}
 use Rattle.dmlw_script.specs.Plans.{Disk, ScriptValue, top_of}
 use Rattle.dmlw_script.specs.Words.{lines_of}
-use Rattle.dmlw_files.specs.Files.{MatchesContents, image_of}
+use Rattle.dmlw_files.specs.Files.{FileHoldsImage, FileIsWithin, MatchesContents, Write, image_of}
+use Rattle.dmlw_files.specs.Files.{with_write}
 use Rattle.script_runner.specs.DiskRun.{IsCounted, IsNew, IsUnmade, seen_on}
 use Rattle.nbd.specs.declared.server.Server.{Server}
 use Rattle.nbd.specs.declared.serving.Served.{Served as Ending}
@@ -125,23 +126,51 @@ pub record LeavesImage (text first : List ℕ) (served : ServedSession) (image :
   pub begins : Begun script first begun
   pub leaves : Leaves script begun served image heard_from heard_to said_from said_to
 
--- Why `serve` fails, where the files of the head and of the first content hold what is given. All but
--- `file` come before the session.
--- - `file`: a file can't be used, or memory ran out. A first content that isn't as large as the data
---   disk is a file that can't be used.
--- - `script`: the head's text isn't a script's.
--- - `longer`: the script has a line after its head. The fault is at the first such line.
--- - `unmade`: no log could be made.
-pub data FailsServing (text first : Option (List ℕ)) : RunError → Type 0 where
-  file : (fault : RunError) → IsFileError fault → FailsServing text first fault
+-- A session over the files of the head and of the first content ended, and then the write of the file
+-- `log` was asked for, with the image that the session left of the log's disk. `before` and `after`
+-- are the writes of files that were asked for.
+pub record EndsInWrite (head first : Option (List ℕ)) (log : List ℕ)
+    (before after : Option (List Write)) (served : ServedSession)
+    (heard_from heard_to said_from said_to : Option (List ℕ)) : Type 0 where
+  pub text : List ℕ
+  pub content : List ℕ
+  pub image : List ℕ
+  pub spelled : MatchesContents head text
+  pub held : MatchesContents first content
+  pub leaves : LeavesImage text content served image heard_from heard_to said_from said_to
+  pub asked : after ≡ with_write before log image
+
+-- Why no server can be made of a script's head and a first content.
+pub data FailsStart (script : ScriptValue) (image : List ℕ) : RunError → Type 0 where
+  -- memory ran out
+  short : FailsStart script image memory_error
+  -- the image isn't as large as the data disk
+  other_size : length image / 512 ≢ script.data_disk.sectors
+      → FailsStart script image (refused_by refusals.File)
+  -- no log could be made
+  unmade : (fault : RunError) → length image / 512 ≡ script.data_disk.sectors
+      → IsUnmade (bytes_of script.log_size) script.log_disk fault → FailsStart script image fault
+
+-- Why `serve` fails before its session, where the files of the head, of the first content and of the
+-- log hold what is given.
+pub data FailsServing (text first log : Option (List ℕ)) : RunError → Type 0 where
+  -- the log is the file of the head or of the first content, so both hold the same
+  same_file : (text ≡ log) ⊎ (first ≡ log) → FailsServing text first log (refused_by refusals.File)
+  -- the file of the head can't be read as a text, or memory ran out for it
+  unread_head : (fault : RunError) → IsFileError fault
+      → (FileIsWithin 4194304 text → fault ≡ memory_error) → FailsServing text first log fault
+  -- the head's text isn't a script's
   script : (head : List ℕ) (fault : Fault) → MatchesContents text head
-      → IsFaultOf head fault fault.line → FailsServing text first (Refused fault)
+      → IsFaultOf head fault fault.line → FailsServing text first log (Refused fault)
+  -- the script has a line after its head. The fault is at the first such line
   longer : (head : List ℕ) (script : ScriptValue) (line : ℕ) → MatchesContents text head
       → IsTextOf head script → IsLineOf (lines_of head) script 0 line
-      → FailsServing text first
+      → FailsServing text first log
       (Refused (record { line = Some line; refusal = refusals.BadLine }))
-  unmade : (head image : List ℕ) (script : ScriptValue) (fault : RunError)
+  -- the file of the first content can't be read as an image, or memory ran out for it
+  unread_first : (fault : RunError) → IsFileError fault
+      → (FileHoldsImage first → fault ≡ memory_error) → FailsServing text first log fault
+  -- no server can be made of both
+  unstarted : (head image : List ℕ) (script : ScriptValue) (fault : RunError)
       → MatchesContents text head → MatchesContents first image → IsTextOf head script
-      → IsOnlyHead script → length image / 512 ≡ script.data_disk.sectors
-      → IsUnmade (bytes_of script.log_size) script.log_disk fault
-      → FailsServing text first fault
+      → IsOnlyHead script → FailsStart script image fault → FailsServing text first log fault

@@ -3,14 +3,14 @@ ghost use Rattle.std.specs.Prelude.{◌≡◌, ◌≢◌, ◌⊎◌, ◌/◌, �
 ghost use Rattle.refusals.specs.declared.refusal.Refusal.TheVariants as refusals;
 ghost use Rattle.refusals.specs.declared.run_error.RunError.TheVariants.{Refused};
 ghost use Rattle.refusals.specs.Errors.{IsFileError, memory_error, refused_by};
-ghost use Rattle.bio.specs.Requests.{bytes_of};
 ghost use Rattle.layer_table.specs.Layers.{disk_of};
-ghost use Rattle.dmlw_files.specs.Files.{IsImage, KeepsFiles, MatchesContents, image_of};
+ghost use Rattle.dmlw_files.specs.Files.{IsImage, KeepsFiles, MatchesContents, image_of, with_write};
 ghost use Rattle.dmlw_script.specs.Grammar.{IsLineOf, IsTextOf};
 ghost use Rattle.dmlw_script.specs.Plans.{IsDisk, ScriptValue};
 ghost use Rattle.dmlw_script.specs.Words.{lines_of};
-ghost use Rattle.script_runner.specs.DiskRun.{IsUnmade};
-ghost use Rattle.dmlw_serve.specs.Serves.{Begun, FailsServing, IsStackWithImage, IsOnlyHead, LeavesImage, Reports};
+ghost use Rattle.dmlw_serve.specs.declared.session.ServedSession.{ServedSession};
+ghost use Rattle.dmlw_serve.specs.Serves.{Begun, EndsInWrite, FailsServing, FailsStart, IsStackWithImage};
+ghost use Rattle.dmlw_serve.specs.Serves.{IsOnlyHead, LeavesImage, Reports};
 
 use crate::counts::Counts;
 use bio::{SECTOR_BYTES, Status};
@@ -70,9 +70,20 @@ pub fn serve<F: Files, I: Read, O: Write, H: Host>(
         × MatchesContents (F.contents files.old names.entry.first.now) first
         × LeavesImage text first served image (I.remaining input.old) (I.remaining input.new)
         (O.contents output.old) (O.contents output.new)
-        × MatchesContents (F.contents files.new names.entry.log.now) image) }
-    ensures faults { IfErr result (FailsServing (F.contents files.old names.entry.head.now)
-        (F.contents files.old names.entry.first.now)) }
+        × MatchesContents (F.contents files.new names.entry.log.now) image
+        × (F.writes files.new ≡ with_write (F.writes files.old) names.entry.log.now image)) }
+    // A failure is before the session, and then the client is neither read nor answered, and no
+    // write is asked for. Or the session ended, and the log's write failed.
+    ensures faults { IfErr result (λ fault.
+        (FailsServing (F.contents files.old names.entry.head.now)
+        (F.contents files.old names.entry.first.now) (F.contents files.old names.entry.log.now) fault
+        × (input.new ≡ input.old) × (output.new ≡ output.old)
+        × (F.writes files.new ≡ F.writes files.old))
+        ⊎ (IsFileError fault × ((served : ServedSession)
+        × EndsInWrite (F.contents files.old names.entry.head.now)
+        (F.contents files.old names.entry.first.now) names.entry.log.now (F.writes files.old)
+        (F.writes files.new) served (I.remaining input.old) (I.remaining input.new)
+        (O.contents output.old) (O.contents output.new)))) }
     ensures kept { OnErr result (KeepsFiles (F.contents files.old) (F.contents files.new)) }
     // If the log has the name of a file that is read, the session is refused as a file.
     ensures same_head { names.entry.head.now ≡ names.entry.log.now → result ≡ Err (refused_by refusals.File) }
@@ -100,8 +111,9 @@ fn begin<F: Files>(
         × ((script : ScriptValue) × IsTextOf text script × IsOnlyHead script
         × Begun script first server)) }
     ensures faults { IfErr result (FailsServing (F.contents files.old names.entry.head.now)
-        (F.contents files.old names.entry.first.now)) }
+        (F.contents files.old names.entry.first.now) (F.contents files.old names.entry.log.now)) }
     ensures kept { KeepsFiles (F.contents files.old) (F.contents files.new) }
+    ensures unwritten { F.writes files.new ≡ F.writes files.old }
     ensures same_head { names.entry.head.now ≡ names.entry.log.now → result ≡ Err (refused_by refusals.File) }
     ensures same_first { names.entry.first.now ≡ names.entry.log.now → result ≡ Err (refused_by refusals.File) }
 {
@@ -118,9 +130,10 @@ fn read_head<F: Files>(alloc: Global, name: &str, files: &mut F) -> Result<Scrip
     ensures read { IfOk result (λ script. (text : List ℕ)
         × MatchesContents (F.contents files.old name.now) text × IsTextOf text script
         × IsOnlyHead script) }
-    ensures faults { (first : Option (List ℕ))
-        → IfErr result (FailsServing (F.contents files.old name.now) first) }
+    ensures faults { (first log : Option (List ℕ))
+        → IfErr result (FailsServing (F.contents files.old name.now) first log) }
     ensures kept { KeepsFiles (F.contents files.old) (F.contents files.new) }
+    ensures unwritten { F.writes files.new ≡ F.writes files.old }
 {
     let text = read_text(alloc, name, files)?;
     let script = read_script(alloc, &text)?;
@@ -132,6 +145,9 @@ fn read_head<F: Files>(alloc: Global, name: &str, files: &mut F) -> Result<Scrip
 fn is_read<F: Files>(files: &F, names: ServeNames) -> bool
     ensures head { names.entry.head.now ≡ names.entry.log.now → result ≡ true }
     ensures first { names.entry.first.now ≡ names.entry.log.now → result ≡ true }
+    ensures held { result ≡ true
+        → (F.contents files.now names.entry.head.now ≡ F.contents files.now names.entry.log.now)
+        ⊎ (F.contents files.now names.entry.first.now ≡ F.contents files.now names.entry.log.now) }
 {
     files.is_same(names.head, names.log) || files.is_same(names.first, names.log)
 }
@@ -159,9 +175,7 @@ fn check_head(text: &[u8], script: &Script) -> Result<(), RunError>
 fn start(alloc: Global, script: &Script, first: Image) -> Result<Server<Stack, Stack>, RunError>
     requires { IsImage first }
     ensures begun { IfOk result (Begun script.now first) }
-    ensures faults { IfErr result (λ fault. IsFileError fault
-        ⊎ ((length first / 512 ≡ script.now.data_disk.sectors)
-        × IsUnmade (bytes_of script.now.log_size) script.now.log_disk fault)) }
+    ensures faults { IfErr result (FailsStart script.now first) }
 {
     let data = filled_stack(alloc, script.data(), first)?;
     let log = new_stack(alloc, script.log())?;
@@ -176,7 +190,8 @@ fn filled_stack(alloc: Global, disk: &DiskSpec, image: Image) -> Result<Stack, R
     requires disk { IsDisk disk.now }
     requires image { IsImage image }
     ensures filled { IfOk result (IsStackWithImage disk.now image) }
-    ensures faults { IfErr result IsFileError }
+    ensures faults { IfErr result (λ fault. (fault ≡ memory_error)
+        ⊎ ((length image / 512 ≢ disk.now.sectors) × (fault ≡ refused_by refusals.File))) }
     ensures size { length image / 512 ≢ disk.now.sectors → result ≡ Err (refused_by refusals.File) }
     ensures memory { IfErr result (λ fault. length image / 512 ≡ disk.now.sectors
         → fault ≡ memory_error) }
@@ -200,6 +215,10 @@ fn finish<F: Files>(
     ensures written { OnOk result (MatchesContents (F.contents files.new name.now)
         (image_of (disk_of server.recorder.store.device))) }
     ensures faults { IfErr result IsFileError }
+    ensures unreported { IfErr result (λ fault. (served : ServedSession)
+        × Reports server end served) }
+    ensures asks { F.writes files.new ≡ with_write (F.writes files.old) name.now
+        (image_of (disk_of server.recorder.store.device)) }
     ensures kept { OnErr result (KeepsFiles (F.contents files.old) (F.contents files.new)) }
 {
     let (recorder, data) = server.into_parts();

@@ -1,5 +1,5 @@
-use Rattle.std.proofs.Common.{◌≡◌, ◌⊎◌, ap, inl, inr, subst, sym}
-use Rattle.refusals.specs.Errors.{IsFileError, memory_error}
+use Rattle.std.proofs.Common.{◌≡◌, ◌⊎◌, ◌∙◌, ap, subst, sym}
+use Rattle.refusals.specs.Errors.{memory_error}
 use Rattle.bio.specs.declared.request.SectorSize.{SectorSize}
 use Rattle.bio.specs.Requests.{bytes_of}
 use Rattle.layer_table.specs.Layers.{on_stack}
@@ -7,8 +7,8 @@ use Rattle.pending.specs.CoreState.{CoreState}
 use Rattle.dmlw_script.specs.Plans.{Disk}
 use Rattle.script_runner.specs.CallLaws.{on_error}
 use Rattle.script_runner.specs.DiskRun.{IsNewOn, IsStackOf, IsUnmadeOn}
-use Rattle.dmlw_serve.specs.Serves.{IsStackWithImage}
-use Rattle.dmlw_serve.proofs.Sessions.{begins, if_failed, room_on, unmade_at}
+use Rattle.dmlw_serve.specs.Serves.{FailsStart, IsStackWithImage, short}
+use Rattle.dmlw_serve.proofs.Sessions.{begins, if_failed, room_on, unfilled, unmade_at}
 use Rattle.dmlw_serve.proofs.session.start.Goals as goal
 
 pub returns-in_err-data-clause-begun : goal.returns-in_err-data-clause-begun
@@ -17,7 +17,8 @@ returns-in_err-data-clause-begun c = if_failed _ c.from_residual.result c.from_r
 pub returns-in_err-data-clause-faults : goal.returns-in_err-data-clause-faults
 returns-in_err-data-clause-faults c =
     on_error c.from_residual.result c.from_residual.ensures.1
-    (λ fault is. inl (subst IsFileError (sym is) c.in_err-data.ensures.faults))
+    (λ fault is. unfilled c.args.script.now c.args.first c.data.result.now fault c.in_err-data.field-0.0
+    c.data.ensures.disk is c.in_err-data.ensures.faults)
 
 pub returns-in_err-log-clause-begun : goal.returns-in_err-log-clause-begun
 returns-in_err-log-clause-begun c =
@@ -26,7 +27,8 @@ returns-in_err-log-clause-begun c =
 pub returns-in_err-log-clause-faults : goal.returns-in_err-log-clause-faults
 returns-in_err-log-clause-faults c =
     on_error c.from_residual-in_err-log.result c.from_residual-in_err-log.ensures.1
-    (λ fault is. inl (subst IsFileError (sym is) (inr c.in_err-log.ensures.faults)))
+    (λ fault is. subst (FailsStart c.args.script.now c.args.first)
+    (sym (is ∙ c.in_err-log.ensures.faults)) short)
 
 pub returns-in_err-recorder-clause-begun : goal.returns-in_err-recorder-clause-begun
 returns-in_err-recorder-clause-begun c =

@@ -35,9 +35,7 @@ use Rattle.dmlw_files.specs.declared.files.FileError.TheVariants as file_errors
 use Rattle.dmlw_files.specs.Files.{file_refusal}
 use Rattle.bio.specs.Requests.{bytes_of}
 use Rattle.layer_table.specs.Layers.{on_stack}
-use Rattle.dmlw_files.specs.Files.{MatchesContents}
-use Rattle.dmlw_script.specs.Grammar.{IsTextOf}
-use Rattle.script_runner.specs.DiskRun.{DiskRecorder, IsNew, IsNewOn, IsStackOf, IsUnmade}
+use Rattle.script_runner.specs.DiskRun.{DiskRecorder, IsNew, IsNewOn, IsStackOf}
 use Rattle.script_runner.specs.DiskRun.{IsUnmadeOn, seen_on}
 use Rattle.refusals.specs.Errors.{memory_error}
 use Rattle.std.specs.Io.KnownBytes.{Appends, Consumes}

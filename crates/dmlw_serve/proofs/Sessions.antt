@@ -161,7 +161,7 @@ all_placed now last ended ends on = by_end ends.closed.recorder.end refl
           ap (λ (core : CoreState). has_no_close core.events) did.1
           ∙ has_close (core_of ends.timed.recorder)
       | inr (inl busy) ↦ absurd (cc busy.0)
-      | inr (inr short) ↦ absurd (cc short.0)
+      | inr (inr lacking) ↦ absurd (cc lacking.0)
     ]
 
     by_answer : (answer : Result Unit End) → ends.closed.recorder.end ≡ None
@@ -191,8 +191,8 @@ log_origin : (bytes : ℕ) (disk : Disk) (begun ended : DiskRecorder) → IsNew 
     → RecorderFrame (recorder_view begun) (recorder_view ended)
     → (stack_shown ended.store.device).origin.sector ≡ top_origin 0 disk.layers
 log_origin bytes disk begun ended new goes =
-    ap (λ (place : Origin). place.origin)
-    (goes.place ∙ new.begun.made.place ∙ new.blank.over.place)
+    ap (λ (origin : Origin). origin.sector)
+    (goes.origin ∙ new.begun.made.origin ∙ new.blank.over.origin)
 
 -- What the log's device holds now: the part of its disk that the layers show.
 held_now : (device : Stack) → (seen : Content) × (stack_shown device).crash seen
